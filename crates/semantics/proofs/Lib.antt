@@ -1,0 +1,10 @@
+-- Theorems about the definitions of specs/.
+pub mod Examples
+pub mod Tests
+pub mod Lists
+pub mod Passed
+pub mod Invariant
+pub mod Steps
+pub mod Trees
+pub mod Safety
+pub mod Depth

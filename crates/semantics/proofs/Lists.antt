@@ -1,0 +1,41 @@
+-- Laws of the definitions of specs/Words.antt.
+use Prim.Native.Nat.{ℕ, zero, suc, _+_, _≤_, _<_}
+use mathlib.Core.Path.{_≡_, refl, _∙_}
+use mathlib.Core.List.{List, [], _∷_, _++_}
+use native.Mathlib.Omega.{arith}
+use native.Mathlib.Nat.{not-suc-le-zero}
+use native.Mathlib.Decide.{ℕ-discrete}
+use lib.ListN.{length, getD, length-append, List·getD-append}
+use lib.Seq.{getD-at}
+use Rattle.semantics.specs.Words.{sum-below, grow}
+
+module _ {A : Type 0} (f : ℕ → List A → A) where
+  pub length-grow : (n : ℕ) → length (grow f n) ≡ n
+  unfolding grow
+  length-grow zero = refl
+  length-grow (suc n) = omega (arith, length-append (grow f n) (f n (grow f n) ∷ []), length-grow n)
+
+  -- An element of the list is what f gave when the list had grown to it.
+  pub getD-grow : (d : A) (n i : ℕ) → i < n → getD (grow f n) i d ≡ f i (grow f i)
+  unfolding grow
+  getD-grow d zero i h = absurd (not-suc-le-zero h)
+  getD-grow d (suc n) i h = go (ℕ-discrete i n) (getD-grow d n i)
+    where
+      go : Dec (i ≡ n) → (i < n → getD (grow f n) i d ≡ f i (grow f i)) → getD (grow f n ++ (f n (grow f n) ∷ [])) i d ≡ f i (grow f i)
+      go (yes e) below = rw e (getD-at (grow f n) (f n (grow f n)) [] d n (length-grow n))
+      go (no e) below =
+          let less : i < n = omega arith in
+          List·getD-append (grow f n) (f n (grow f n) ∷ []) d i (omega (arith, length-grow n)) ∙ below less
+
+-- A sum is at least any of its first terms' sum.
+pub sum-below-≤ : (f : ℕ → ℕ) (m n : ℕ) → m ≤ n → sum-below m f ≤ sum-below n f
+unfolding sum-below
+sum-below-≤ f m zero h = rw (mz) (omega arith)
+  where
+    mz : m ≡ 0
+    mz = omega arith
+sum-below-≤ f m (suc n) h = go (ℕ-discrete m (suc n)) (sum-below-≤ f m n)
+  where
+    go : Dec (m ≡ suc n) → (m ≤ n → sum-below m f ≤ sum-below n f) → sum-below m f ≤ sum-below n f + f n
+    go (yes e) below = rw e (omega arith)
+    go (no e) below = omega (arith, below (omega arith))

@@ -1,0 +1,290 @@
+-- Each step keeps the invariant, and no step of a tree that makes sense is without a rule.
+use Prim.Native.Nat.{ℕ, _+_, _≤_, _<_}
+use mathlib.Core.Bool.{Bool, true, false}
+use mathlib.Core.Path.{_≡_, refl, sym, ap, _∙_}
+use mathlib.Core.Logic.{⊎-elim}
+use mathlib.Core.List.{List, _∷_, List·Memᴰ·head, List·Memᴰ·tail, List·Memᴰ·cases-cons}
+use native.Mathlib.Omega.{arith}
+use native.Mathlib.Decide.{ℕ-discrete}
+use borrow.Author.Tests.{lt-ltb, leb-true, eqb-false}
+use lib.Dec.{leb, eqb, ltb}
+use lib.ListN.{length, set, length-set}
+use lib.Seq.{getD-set-same, getD-set-other}
+use Rattle.semantics.specs.Words.{Words, word, if_then_else_}
+use Rattle.semantics.specs.Syntax.{Place, Variable, Deref, Field, Value, Number, Sum, Read, Address, Cast, Malloc}
+use Rattle.semantics.specs.Rules.{Datum, unbounded, Access, Location, Event, loaded, stored, allocated, State, noted, ok, fails, no-room, in-bounds, checked, deref-step, field-step, touchable, contents, read-step, cast-step, with-block, malloc-step, place-at, value-at, with-datum, assign-step, assign}
+use Rattle.semantics.specs.Safety.{variable, block, Held, Permitted, by-name, by-pointer, Allowed, load, store, alloc, Sound, absent, held, Unwritten, Same-word}
+use Rattle.semantics.proofs.Tests.{in-bounds-true, and-both}
+use Rattle.semantics.proofs.Invariant.{Inv, Within, Later, now, sound-later, permitted-used, Datum-ok, Location-ok, location-later, Good, good-ok, good-fails, good-no-room, bind-good}
+
+touchable-true : {vars len w : ℕ} {s : State} {a : Access} → Inv vars len s → Permitted vars (s .log) w a → touchable s w ≡ true
+unfolding touchable
+touchable-true {w = w} {s = s} inv h =
+    let used = permitted-used inv h in
+    and-both (ltb 0 w) (ltb w (s .unused)) (lt-ltb 0 w (used .0)) (lt-ltb w (s .unused) (used .1))
+
+-- ---- states: an event that is no block, a block, a datum stored
+
+tail : {l : List Event} (e : Event) → Within l (e ∷ l)
+tail e x h = List·Memᴰ·tail h
+
+noted-later : {s : State} (e : Event) → Later s (noted e s)
+noted-later e = record { more = tail e; kept = λ w h. record { value = refl; base = refl; end = refl } }
+
+no-block : {vars len : ℕ} {s : State} (e : Event) → Inv vars len s → ((a n : ℕ) → allocated a n ≡ e → ⊥) → Allowed vars (e ∷ s .log) → Inv vars len (noted e s)
+no-block e inv other allowed =
+    record {
+      values-length = inv .values-length;
+      bases-length = inv .bases-length;
+      ends-length = inv .ends-length;
+      low = inv .low;
+      high = inv .high;
+      blocks = λ a n h. ⊎-elim (λ q. absurd (other a n q)) (λ m. inv .blocks a n m) (List·Memᴰ·cases-cons h);
+      sound = λ w. sound-later (tail e) (inv .sound w);
+      allowed = allowed;
+      clear = inv .clear;
+    }
+
+not-loaded : {w : ℕ} {x : Access} (a n : ℕ) → allocated a n ≡ loaded w x → ⊥
+not-loaded a n q = let z : _≡_ {A = ℕ} 0 1 = cc in omega arith
+
+not-stored : {w : ℕ} {x : Access} (a n : ℕ) → allocated a n ≡ stored w x → ⊥
+not-stored a n q = let z : _≡_ {A = ℕ} 0 1 = cc in omega arith
+
+block-inv : {vars len : ℕ} {s : State} (n : ℕ) → Inv vars len s → s .unused + n ≤ len → Inv vars len (with-block n s)
+block-inv {vars} {len} {s} n inv fits =
+    record {
+      values-length = inv .values-length;
+      bases-length = inv .bases-length;
+      ends-length = inv .ends-length;
+      low = omega (arith, inv .low);
+      high = fits;
+      blocks = λ a k h. ⊎-elim (new a k) (λ m. omega (arith, inv .blocks a k m)) (List·Memᴰ·cases-cons h);
+      sound = λ w. sound-later (tail (allocated (s .unused) n)) (inv .sound w);
+      allowed = alloc (inv .allowed);
+      clear = λ w h. inv .clear w (omega arith);
+    }
+  where
+    new : (a k : ℕ) → allocated a k ≡ allocated (s .unused) n → (vars < a) × (a + k ≤ s .unused + n)
+    new a k q =
+        let p : a ≡ s .unused = cc in
+        let r : k ≡ n = cc in
+        omega (arith, inv .low)
+
+-- A store at w, which is in use: the word's bounds are the datum's, every other word is as it was.
+pointer-inv : {vars len : ℕ} {s : State} (w : ℕ) (x : Datum) → w < s .unused → Inv vars len s → Datum-ok vars x s → Inv vars len (with-datum true w x s)
+pointer-inv {vars} {len} {s} w x used inv good =
+    record {
+      values-length = length-set (s .values) w (x .value) ∙ inv .values-length;
+      bases-length = length-set (s .bases) w (x .base) ∙ inv .bases-length;
+      ends-length = length-set (s .ends) w (x .end) ∙ inv .ends-length;
+      low = inv .low;
+      high = inv .high;
+      blocks = inv .blocks;
+      sound = λ v. sound v (ℕ-discrete v w);
+      allowed = inv .allowed;
+      clear = λ v h. (
+        other (s .values) (x .value) v h ∙ inv .clear v h .0,
+        other (s .bases) (x .base) v h ∙ inv .clear v h .1,
+        other (s .ends) (x .end) v h ∙ inv .clear v h .2,
+      );
+    }
+  where
+    sound : (v : ℕ) → Dec (v ≡ w) → Sound vars (s .log) (word (set (s .bases) w (x .base)) v) (word (set (s .ends) w (x .end)) v)
+    sound v (yes e) =
+        rw (e, getD-set-same (s .bases) w (x .base) 0 (omega (arith, inv .bases-length, inv .high)), getD-set-same (s .ends) w (x .end) 0 (omega (arith, inv .ends-length, inv .high)))
+        (good .sound)
+    sound v (no n) = rw (getD-set-other (s .bases) w v (x .base) 0 n, getD-set-other (s .ends) w v (x .end) 0 n) (inv .sound v)
+
+    other : (l : Words) (y v : ℕ) → s .unused ≤ v → word (set l w y) v ≡ word l v
+    other l y v h = getD-set-other l w v y 0 (λ e. omega arith)
+
+int-inv : {vars len : ℕ} {s : State} (w : ℕ) (x : Datum) → w < s .unused → Inv vars len s → Inv vars len (with-datum false w x s)
+int-inv {s = s} w x used inv =
+    record {
+      values-length = length-set (s .values) w (x .value) ∙ inv .values-length;
+      bases-length = inv .bases-length;
+      ends-length = inv .ends-length;
+      low = inv .low;
+      high = inv .high;
+      blocks = inv .blocks;
+      sound = inv .sound;
+      allowed = inv .allowed;
+      clear = λ v h. (getD-set-other (s .values) w v (x .value) 0 (λ e. omega arith) ∙ inv .clear v h .0, inv .clear v h .1, inv .clear v h .2);
+    }
+
+datum-inv : {vars len : ℕ} {s : State} (pointer : Bool) (w : ℕ) (x : Datum) → w < s .unused → Inv vars len s → Datum-ok vars x s → Inv vars len (with-datum pointer w x s)
+datum-inv true w x used inv good = pointer-inv w x used inv good
+datum-inv false w x used inv good = int-inv w x used inv
+
+log-kept : (pointer : Bool) (w : ℕ) (x : Datum) (s : State) → with-datum pointer w x s .log ≡ s .log
+log-kept true w x s = refl
+log-kept false w x s = refl
+
+-- A store leaves a log that has it as written, and every other word as it was.
+stored-later : {s : State} (pointer : Bool) (l : Location) (x : Datum) → Later s (noted (stored (l .at) (l .access)) (with-datum pointer (l .at) x s))
+stored-later {s} pointer l x = record { more = rw (log-kept pointer (l .at) x s) (tail (stored (l .at) (l .access))); kept = kept pointer }
+  where
+    elsewhere : (p : Words) (y w : ℕ) → (w ≡ l .at → ⊥) → word p w ≡ word (set p (l .at) y) w
+    elsewhere p y w other = sym (getD-set-other p (l .at) w y 0 other)
+
+    kept : (b : Bool) (w : ℕ) → Unwritten w (stored (l .at) (l .access) ∷ with-datum b (l .at) x s .log)
+        → Same-word w s (noted (stored (l .at) (l .access)) (with-datum b (l .at) x s))
+    kept true w h =
+        let other : w ≡ l .at → ⊥ = λ e. h (l .access) (List·Memᴰ·head (ap (λ v. stored v (l .access)) e)) in
+        record { value = elsewhere (s .values) (x .value) w other; base = elsewhere (s .bases) (x .base) w other; end = elsewhere (s .ends) (x .end) w other }
+    kept false w h =
+        let other : w ≡ l .at → ⊥ = λ e. h (l .access) (List·Memᴰ·head (ap (λ v. stored v (l .access)) e)) in
+        record { value = elsewhere (s .values) (x .value) w other; base = refl; end = refl }
+
+-- ---- places
+
+-- A check of at least one word passes only where there are bounds, and then they are held.
+sound-held : {vars b e : ℕ} {l : List Event} → Sound vars l b e → 0 < e → Held vars l b e
+sound-held (absent p q) h = absurd (omega arith)
+sound-held (held x) h = x
+
+checked-good : {vars len : ℕ} {s : State} (n : ℕ) (p : Datum) (w k : ℕ) (l : Location) → Inv vars len s
+    → (p .base ≤ w → w + k ≤ p .end → Location-ok vars l s) → Good vars len s (Location-ok vars) (checked n p w k l s)
+unfolding checked
+checked-good {vars} {len} {s} n p w k l inv found = go (in-bounds p w k) refl
+  where
+    go : (b : Bool) → in-bounds p w k ≡ b
+        → Good vars len s (Location-ok vars) (if b then ok l s else fails (record { node = n; at = w; words = k; base = p .base; end = p .end }) s)
+    go true e = good-ok inv now (found (in-bounds-true p w k e .0) (in-bounds-true p w k e .1))
+    go false e = good-fails inv now
+
+deref-good : {vars len : ℕ} (n : ℕ) (p : Datum) (s : State) → Inv vars len s → Datum-ok vars p s → Good vars len s (Location-ok vars) (deref-step n p s)
+unfolding deref-step
+deref-good n p s inv good =
+    checked-good n p (p .value) 1 _ inv
+    (λ from upto.
+    let h = sound-held (good .sound) (omega arith) in
+    record { permitted = by-pointer from upto h; bounds = h })
+
+field-good : {vars len : ℕ} (n offset k : ℕ) (p : Datum) (s : State) → 0 < k → Inv vars len s → Datum-ok vars p s
+    → Good vars len s (Location-ok vars) (field-step n offset k p s)
+unfolding field-step
+field-good n offset k p s some inv good =
+    checked-good n p (p .value + offset) k _ inv
+    (λ from upto.
+    let h = sound-held (good .sound) (omega arith) in
+    record {
+      permitted = by-pointer from (omega arith) h;
+      bounds = record { s = h .s; t = h .t; region = h .region; from = omega (arith, h .from); proper = omega arith; upto = omega (arith, h .upto) };
+    })
+
+-- ---- values
+
+read-good : {vars len : ℕ} (pointer : Bool) (l : Location) (s : State) → Inv vars len s → Location-ok vars l s
+    → Good vars len s (Datum-ok vars) (read-step pointer l s)
+unfolding read-step
+read-good {vars} {len} pointer l s inv good =
+    rw (touchable-true inv (good .permitted))
+    (good-ok (no-block (loaded (l .at) (l .access)) inv not-loaded (load (good .permitted) (inv .allowed))) (noted-later (loaded (l .at) (l .access))) (kept pointer))
+  where
+    kept : (b : Bool) → Datum-ok vars (contents b s (l .at)) (noted (loaded (l .at) (l .access)) s)
+    kept true = record { sound = sound-later (tail (loaded (l .at) (l .access))) (inv .sound (l .at)) }
+    kept false = record { sound = absent refl refl }
+
+cast-good : {vars len : ℕ} (keeps : Bool) (p : Datum) (s : State) → Inv vars len s → Datum-ok vars p s
+    → Good vars len s (Datum-ok vars) (cast-step keeps p s)
+cast-good true p s inv good = good-ok inv now good
+cast-good false p s inv good = good-ok inv now (record { sound = absent refl refl })
+
+malloc-good : {vars len : ℕ} (x : Datum) (s : State) → Inv vars len s → Good vars len s (Datum-ok vars) (malloc-step x s)
+unfolding malloc-step
+malloc-good {vars} {len} x s inv = go (eqb (x .value) 0) refl (leb (s .unused + x .value) (length (s .values))) refl
+  where
+    fresh : (eqb (x .value) 0 ≡ false) → Held vars (with-block (x .value) s .log) (s .unused) (s .unused + x .value)
+    fresh some =
+        record {
+          s = s .unused;
+          t = s .unused + x .value;
+          region = block (s .unused) (x .value) (List·Memᴰ·head refl);
+          from = omega arith;
+          proper = omega (arith, eqb-false (x .value) 0 some);
+          upto = omega arith;
+        }
+
+    go : (none : Bool) → eqb (x .value) 0 ≡ none → (fits : Bool) → leb (s .unused + x .value) (length (s .values)) ≡ fits
+        → Good vars len s (Datum-ok vars)
+        (if none then ok (unbounded 0) s else
+        if fits then ok (record { value = s .unused; base = s .unused; end = s .unused + x .value }) (with-block (x .value) s) else
+        no-room s)
+    go true e fits f = good-ok inv now (record { sound = absent refl refl })
+    go false e true f =
+        good-ok (block-inv (x .value) inv (omega (arith, leb-true (s .unused + x .value) (length (s .values)) f, inv .values-length)))
+        (record { more = tail (allocated (s .unused) (x .value)); kept = λ w h. record { value = refl; base = refl; end = refl } })
+        (record { sound = held (fresh e) })
+    go false e false f = good-no-room inv now
+
+-- ---- trees
+
+-- What the rules need of a tree: variables below their number, fields of at least one word, and no part that makes no sense.
+mutual
+  pub data Place-ok (vars : ℕ) : Place → Type 0 where
+    variable-ok : {n i : ℕ} → i < vars → Place-ok vars (Variable n i)
+    deref-ok : {n : ℕ} {v : Value} → Value-ok vars v → Place-ok vars (Deref n v)
+    field-ok : {n offset k : ℕ} {v : Value} → 0 < k → Value-ok vars v → Place-ok vars (Field n offset k v)
+
+  pub data Value-ok (vars : ℕ) : Value → Type 0 where
+    number-ok : {n x : ℕ} → Value-ok vars (Number n x)
+    sum-ok : {n step : ℕ} {a b : Value} → Value-ok vars a → Value-ok vars b → Value-ok vars (Sum n step a b)
+    read-ok : {n : ℕ} {pointer : Bool} {p : Place} → Place-ok vars p → Value-ok vars (Read n pointer p)
+    address-ok : {n : ℕ} {p : Place} → Place-ok vars p → Value-ok vars (Address n p)
+    cast-ok : {n : ℕ} {keeps : Bool} {v : Value} → Value-ok vars v → Value-ok vars (Cast n keeps v)
+    malloc-ok : {n : ℕ} {v : Value} → Value-ok vars v → Value-ok vars (Malloc n v)
+
+own-bounds : (vars i : ℕ) (l : List Event) → i < vars → Held vars l (1 + i) (1 + i + 1)
+own-bounds vars i l h =
+    record { s = 1 + i; t = 1 + i + 1; region = variable i h; from = omega arith; proper = omega arith; upto = omega arith }
+
+mutual
+  unfolding place-at
+
+  pub place-good : {vars len : ℕ} {p : Place} → Place-ok vars p → (s : State) → Inv vars len s → Good vars len s (Location-ok vars) (place-at p s)
+  place-good {vars} (variable-ok {i = i} h) s inv =
+      good-ok inv now (record { permitted = by-name h refl; bounds = own-bounds vars i (s .log) h })
+  place-good (deref-ok {n = n} v) s inv = bind-good (value-good v s inv) (λ p s′ inv′ more good. deref-good n p s′ inv′ good)
+  place-good (field-ok {n = n} {offset = o} {k = k} some v) s inv =
+      bind-good (value-good v s inv) (λ p s′ inv′ more good. field-good n o k p s′ some inv′ good)
+
+  pub value-good : {vars len : ℕ} {v : Value} → Value-ok vars v → (s : State) → Inv vars len s → Good vars len s (Datum-ok vars) (value-at v s)
+  value-good number-ok s inv = good-ok inv now (record { sound = absent refl refl })
+  value-good (sum-ok a b) s inv =
+      bind-good (value-good a s inv)
+      (λ p s′ inv′ more good.
+      bind-good (value-good b s′ inv′)
+      (λ x s″ inv″ more′ good′. good-ok inv″ now (record { sound = sound-later (more′ .more) (good .sound) })))
+  value-good (read-ok {pointer = b} p) s inv = bind-good (place-good p s inv) (λ l s′ inv′ more good. read-good b l s′ inv′ good)
+  value-good (address-ok p) s inv =
+      bind-good (place-good p s inv) (λ l s′ inv′ more good. good-ok inv′ now (record { sound = held (good .bounds) }))
+  value-good (cast-ok {keeps = k} v) s inv = bind-good (value-good v s inv) (λ p s′ inv′ more good. cast-good k p s′ inv′ good)
+  value-good (malloc-ok v) s inv = bind-good (value-good v s inv) (λ x s′ inv′ more good. malloc-good x s′ inv′)
+
+-- ---- a command
+
+pub record Any (x : Unit {0}) (s : State) : Type 0 where
+
+assign-step-good : {vars len : ℕ} (pointer : Bool) (l : Location) (x : Datum) (s : State) → Inv vars len s → Location-ok vars l s → Datum-ok vars x s
+    → Good vars len s Any (assign-step pointer l x s)
+unfolding assign-step
+assign-step-good {vars} pointer l x s inv place value =
+    let used = permitted-used inv (place .permitted) in
+    let e : with-datum pointer (l .at) x s .log ≡ s .log = log-kept pointer (l .at) x s in
+    rw (touchable-true inv (place .permitted))
+    (good-ok
+    (no-block (stored (l .at) (l .access)) (datum-inv pointer (l .at) x (used .1) inv value) not-stored
+    (rw e (store (place .permitted) (inv .allowed))))
+    (stored-later pointer l x)
+    (record {}))
+
+pub assign-good : {vars len : ℕ} (pointer : Bool) {p : Place} {v : Value} → Place-ok vars p → Value-ok vars v → (s : State) → Inv vars len s
+    → Good vars len s Any (assign pointer p v s)
+unfolding assign
+assign-good pointer p v s inv =
+    bind-good (place-good p s inv)
+    (λ l s′ inv′ more place.
+    bind-good (value-good v s′ inv′)
+    (λ x s″ inv″ more′ value. assign-step-good pointer l x s″ inv″ (location-later (more′ .more) place) value))

@@ -1,0 +1,144 @@
+-- Document 01's refusal examples, starred runs and routine A as one table each: what is called, and what must be answered.
+-- proofs/Examples.antt computes both tables.
+use Prim.Native.Nat.{ℕ, _+_, _-_, _/_}
+use mathlib.Core.List.{List, [], _∷_, _++_}
+use lib.ListN.{length, replicate}
+use Rattle.semantics.specs.Words.{Words, word, grow}
+use Rattle.semantics.specs.Check.{Verdict, passes, refused, check}
+use Rattle.semantics.specs.Rules.{Datum, unbounded}
+use Rattle.semantics.specs.Run.{done, abort, out-of-memory, Answer, refusal, ending, Result, call}
+
+-- A call's arguments, and what it must give: the check's verdict, the answer, and the lent words.
+pub record Example : Type 0 where
+  pub table : Words
+  pub inputs : Words
+  pub length : ℕ
+  pub verdict : Verdict
+  pub answer : Answer
+  pub memory : List Datum
+
+abbrev cell : Result → ℕ → Datum
+cell r w = record { value = word (r .values) w; base = word (r .bases) w; end = word (r .ends) w }
+
+-- After a run the words from 1 to U - 1; after a refusal every word.
+abbrev shown : Answer → Result → List Datum
+shown (refusal n p) r = grow (λ w before. cell r w) (length (r .values))
+shown (ending e u) r = grow (λ w before. cell r (1 + w)) (u - 1)
+
+-- The same call with what the definitions give. Each lent list arrives with 7 in every word.
+unfoldable pub observed : Example → Example
+observed x =
+    let lent : Words = replicate (x .length) 7 in
+    let r : Result = call (x .table) (x .inputs) lent lent lent in
+    record { table = x .table; inputs = x .inputs; length = x .length; verdict = check (x .table); answer = r .answer; memory = shown (r .answer) r }
+
+-- ---- "What is turned away", one example for each number that the check gives; the lent words stay as they came
+
+untouched : ℕ → List Datum
+untouched n = replicate n (record { value = 7; base = 7; end = 7 })
+
+refused-table : Words → ℕ → ℕ → Example
+refused-table t n p = record { table = t; inputs = []; length = 2; verdict = refused n p; answer = refusal n p; memory = untouched 2 }
+
+unfoldable pub refusals : List Example
+unfolding untouched refused-table
+refusals =
+    refused-table (0 ∷ 0 ∷ 0 ∷ []) 1 3
+    ∷ refused-table (0 ∷ 0 ∷ 0 ∷ 0 ∷ 0 ∷ 0 ∷ 9 ∷ []) 2 6
+    ∷ refused-table (33 ∷ []) 3 0
+    ∷ refused-table (1 ∷ 0 ∷ 0 ∷ 0 ∷ 0 ∷ 0 ∷ 0 ∷ []) 4 1
+    ∷ refused-table (0 ∷ 0 ∷ 0 ∷ 1 ∷ 2 ∷ 0 ∷ 0 ∷ []) 5 4
+    ∷ refused-table (0 ∷ 0 ∷ 2 ∷ 0 ∷ 0 ∷ 0 ∷ 0 ∷ 0 ∷ []) 6 4
+    ∷ refused-table (0 ∷ 0 ∷ 0 ∷ 0 ∷ 1 ∷ 11 ∷ 0 ∷ 0 ∷ 0 ∷ []) 7 5
+    ∷ refused-table (0 ∷ 0 ∷ 0 ∷ 1 ∷ 1 ∷ 3 ∷ 1 ∷ 0 ∷ 0 ∷ 6 ∷ 0 ∷ 0 ∷ 2 ∷ 1 ∷ 0 ∷ 0 ∷ []) 8 12
+    ∷ refused-table (0 ∷ 0 ∷ 0 ∷ 0 ∷ 1 ∷ 4 ∷ 7 ∷ 0 ∷ 0 ∷ []) 9 5
+    ∷ record { table = 0 ∷ 0 ∷ 0 ∷ 0 ∷ 0 ∷ 0 ∷ []; inputs = []; length = 0; verdict = passes; answer = refusal 10 0; memory = [] }
+    ∷ record { table = 0 ∷ 0 ∷ 0 ∷ 1 ∷ 1 ∷ 0 ∷ 0 ∷ []; inputs = 5 ∷ []; length = 2; verdict = passes; answer = refusal 11 0; memory = untouched 2 }
+    ∷ []
+
+-- ---- "Runs to compare"
+
+bounded : ℕ → ℕ → ℕ → Datum
+bounded v b e = record { value = v; base = b; end = e }
+
+-- One variable p, pointer to int (type 2), and its input 0; type 3 is pointer to pointer to int. Memory of 4 words.
+routine : Words → Words → Answer → List Datum → Example
+routine ns cs a m =
+    record {
+      table = 0 ∷ 0 ∷ 2 ∷ 0 ∷ 2 ∷ 1 ∷ 2 ∷ length ns / 3 ∷ ns ++ (length cs / 2 ∷ cs);
+      inputs = 0 ∷ [];
+      length = 4;
+      verdict = passes;
+      answer = a;
+      memory = m;
+    }
+
+-- Nodes 0 to 3: p = (int*)malloc(n).
+malloc-to-p : ℕ → Words
+malloc-to-p n = 1 ∷ 0 ∷ 0 ∷ 4 ∷ n ∷ 0 ∷ 10 ∷ 1 ∷ 0 ∷ 8 ∷ 2 ∷ 2 ∷ []
+
+-- Nodes 4 to 8: *(p + k), and node 9: 5.
+store-at-p-plus : ℕ → Words
+store-at-p-plus k = 1 ∷ 0 ∷ 0 ∷ 6 ∷ 4 ∷ 0 ∷ 4 ∷ k ∷ 0 ∷ 5 ∷ 5 ∷ 6 ∷ 2 ∷ 7 ∷ 0 ∷ 4 ∷ 5 ∷ 0 ∷ []
+
+unfoldable pub runs : List Example
+unfolding bounded routine malloc-to-p store-at-p-plus
+runs =
+    -- six zeros, memory 1 word
+    record { table = 0 ∷ 0 ∷ 0 ∷ 0 ∷ 0 ∷ 0 ∷ []; inputs = []; length = 1; verdict = passes; answer = ending done 1; memory = [] }
+    -- m, malloc(3), malloc(0)
+    ∷ routine (malloc-to-p 2) (0 ∷ 3 ∷ []) (ending done 4) (bounded 2 2 4 ∷ unbounded 0 ∷ unbounded 0 ∷ [])
+    ∷ routine (malloc-to-p 3) (0 ∷ 3 ∷ []) (ending (out-of-memory 0) 2) (unbounded 0 ∷ [])
+    ∷ routine (malloc-to-p 0) (0 ∷ 3 ∷ []) (ending done 2) (unbounded 0 ∷ [])
+    -- m; *(p+1) = 5
+    ∷ routine (malloc-to-p 2 ++ store-at-p-plus 1) (0 ∷ 3 ∷ 8 ∷ 9 ∷ [])
+    (ending done 4) (bounded 2 2 4 ∷ unbounded 0 ∷ unbounded 5 ∷ [])
+    -- m; *(p+2) = 5
+    ∷ routine (malloc-to-p 2 ++ store-at-p-plus 2) (0 ∷ 3 ∷ 8 ∷ 9 ∷ [])
+    (ending (abort 1) 4) (bounded 2 2 4 ∷ unbounded 0 ∷ unbounded 0 ∷ [])
+    -- m; *(p+4294967295) = 5
+    ∷ routine (malloc-to-p 2 ++ store-at-p-plus 4294967295) (0 ∷ 3 ∷ 8 ∷ 9 ∷ [])
+    (ending (abort 1) 4) (bounded 2 2 4 ∷ unbounded 0 ∷ unbounded 0 ∷ [])
+    -- m; p = (int*)2; *p = 5
+    ∷ routine (malloc-to-p 2 ++ (1 ∷ 0 ∷ 0 ∷ 4 ∷ 2 ∷ 0 ∷ 8 ∷ 5 ∷ 2 ∷ 1 ∷ 0 ∷ 0 ∷ 6 ∷ 7 ∷ 0 ∷ 2 ∷ 8 ∷ 0 ∷ 4 ∷ 5 ∷ 0 ∷ []))
+    (0 ∷ 3 ∷ 4 ∷ 6 ∷ 9 ∷ 10 ∷ [])
+    (ending (abort 2) 4) (unbounded 2 ∷ unbounded 0 ∷ unbounded 0 ∷ [])
+    -- m; p = &*(p+1); *(p+4294967295) = 7
+    ∷ routine (malloc-to-p 2 ++ (1 ∷ 0 ∷ 0 ∷ 1 ∷ 0 ∷ 0 ∷ 6 ∷ 5 ∷ 0 ∷ 4 ∷ 1 ∷ 0 ∷ 5 ∷ 6 ∷ 7 ∷ 2 ∷ 8 ∷ 0 ∷ 7 ∷ 9 ∷ 0
+    ∷ 1 ∷ 0 ∷ 0 ∷ 6 ∷ 11 ∷ 0 ∷ 4 ∷ 4294967295 ∷ 0 ∷ 5 ∷ 12 ∷ 13 ∷ 2 ∷ 14 ∷ 0 ∷ 4 ∷ 7 ∷ 0 ∷ []))
+    (0 ∷ 3 ∷ 4 ∷ 10 ∷ 15 ∷ 16 ∷ [])
+    (ending done 4) (bounded 3 2 4 ∷ unbounded 7 ∷ unbounded 0 ∷ [])
+    -- m; *(int*)&p = 3; *p = 8
+    ∷ routine (malloc-to-p 2 ++ (1 ∷ 0 ∷ 0 ∷ 7 ∷ 4 ∷ 0 ∷ 8 ∷ 5 ∷ 2 ∷ 2 ∷ 6 ∷ 0 ∷ 4 ∷ 3 ∷ 0
+    ∷ 1 ∷ 0 ∷ 0 ∷ 6 ∷ 9 ∷ 0 ∷ 2 ∷ 10 ∷ 0 ∷ 4 ∷ 8 ∷ 0 ∷ []))
+    (0 ∷ 3 ∷ 7 ∷ 8 ∷ 11 ∷ 12 ∷ [])
+    (ending done 4) (bounded 3 2 4 ∷ unbounded 0 ∷ unbounded 8 ∷ [])
+    -- m; *(p+2) = (int)malloc(9)
+    ∷ routine (malloc-to-p 2 ++ (1 ∷ 0 ∷ 0 ∷ 6 ∷ 4 ∷ 0 ∷ 4 ∷ 2 ∷ 0 ∷ 5 ∷ 5 ∷ 6 ∷ 2 ∷ 7 ∷ 0 ∷ 4 ∷ 9 ∷ 0 ∷ 10 ∷ 9 ∷ 0 ∷ 8 ∷ 10 ∷ 0 ∷ []))
+    (0 ∷ 3 ∷ 8 ∷ 11 ∷ [])
+    (ending (abort 1) 4) (bounded 2 2 4 ∷ unbounded 0 ∷ unbounded 0 ∷ [])
+    -- *((int*)malloc(1)+1) = 0
+    ∷ routine (4 ∷ 1 ∷ 0 ∷ 10 ∷ 0 ∷ 0 ∷ 8 ∷ 1 ∷ 2 ∷ 4 ∷ 1 ∷ 0 ∷ 5 ∷ 2 ∷ 3 ∷ 2 ∷ 4 ∷ 0 ∷ 4 ∷ 0 ∷ 0 ∷ [])
+    (5 ∷ 6 ∷ [])
+    (ending (abort 0) 3) (unbounded 0 ∷ unbounded 0 ∷ [])
+    -- routine A: a record of a snapshot and a live queue, two ints each; the snapshot's pointer stepped by 2 aborts at the queue
+    ∷ record {
+      table =
+          1 ∷ 2
+          ∷ 2 ∷ 0 ∷ 2 ∷ 0 ∷ 2
+          ∷ 2 ∷ 65536 ∷ 0
+          ∷ 2 ∷ 2 ∷ 3
+          ∷ 22
+          ∷ 1 ∷ 0 ∷ 0 ∷ 9 ∷ 65536 ∷ 0 ∷ 10 ∷ 1 ∷ 0 ∷ 8 ∷ 2 ∷ 2
+          ∷ 1 ∷ 1 ∷ 0 ∷ 1 ∷ 0 ∷ 0 ∷ 6 ∷ 5 ∷ 0 ∷ 3 ∷ 6 ∷ 0 ∷ 7 ∷ 7 ∷ 0
+          ∷ 1 ∷ 1 ∷ 0 ∷ 6 ∷ 9 ∷ 0 ∷ 2 ∷ 10 ∷ 0 ∷ 4 ∷ 9 ∷ 0
+          ∷ 1 ∷ 1 ∷ 0 ∷ 1 ∷ 1 ∷ 0 ∷ 6 ∷ 14 ∷ 0 ∷ 4 ∷ 2 ∷ 0 ∷ 5 ∷ 15 ∷ 16
+          ∷ 1 ∷ 1 ∷ 0 ∷ 6 ∷ 18 ∷ 0 ∷ 2 ∷ 19 ∷ 0 ∷ 4 ∷ 9 ∷ 0
+          ∷ 5 ∷ 0 ∷ 3 ∷ 4 ∷ 8 ∷ 11 ∷ 12 ∷ 13 ∷ 17 ∷ 20 ∷ 21 ∷ [];
+      inputs = 0 ∷ 0 ∷ [];
+      length = 16;
+      verdict = passes;
+      answer = ending (abort 4) 7;
+      memory = bounded 3 3 7 ∷ bounded 5 3 5 ∷ unbounded 9 ∷ unbounded 0 ∷ unbounded 0 ∷ unbounded 0 ∷ [];
+    }
+    ∷ []

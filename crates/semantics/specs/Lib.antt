@@ -1,0 +1,9 @@
+-- Document 01 as definitions, in its order: the table, what is turned away, syntax trees, the steps, a whole call, the fence rule.
+pub mod Words
+pub mod Table
+pub mod Check
+pub mod Syntax
+pub mod Rules
+pub mod Run
+pub mod Safety
+pub mod Examples

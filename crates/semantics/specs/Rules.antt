@@ -1,0 +1,163 @@
+-- Document 01, "Steps", over trees. All sums are exact but for that of a Sum.
+use Prim.Native.Nat.{ℕ, _+_, _*_, _%_}
+use mathlib.Core.Bool.{Bool, true, false, _&&_}
+use mathlib.Core.List.{List, _∷_}
+use lib.ListN.{length, set}
+use lib.Dec.{leb, ltb, eqb}
+use Rattle.semantics.specs.Words.{Words, word, if_then_else_}
+use Rattle.semantics.specs.Syntax.{Place, Variable, Deref, Field, NoPlace, Value, Number, Sum, Read, Address, Cast, Malloc, NoValue}
+
+-- A value with its bounds [base, end). "A word with base 0 and end 0 has no bounds."
+pub record Datum : Type 0 where
+  pub value : ℕ
+  pub base : ℕ
+  pub end : ℕ
+
+abbrev pub unbounded : ℕ → Datum
+unbounded v = record { value = v; base = 0; end = 0 }
+
+-- How a place was come by: it names a variable, or this pointer was followed.
+pub data Access : Type 0 where
+  named : (variable : ℕ) → Access
+  followed : (pointer : Datum) → Access
+
+pub record Location : Type 0 where
+  pub at : ℕ
+  pub base : ℕ
+  pub end : ℕ
+  pub access : Access
+
+-- What the fence rule speaks of: a word read, a word written, a block obtained.
+pub data Event : Type 0 where
+  loaded : (at : ℕ) → Access → Event
+  stored : (at : ℕ) → Access → Event
+  allocated : (start words : ℕ) → Event
+
+-- The memory, U, and the events so far, newest first. The log is the rules' own: no program keeps it.
+pub record State : Type 0 where
+  pub values : Words
+  pub bases : Words
+  pub ends : Words
+  pub unused : ℕ
+  pub log : List Event
+
+abbrev pub noted : Event → State → State
+noted e s = record { values = s .values; bases = s .bases; ends = s .ends; unused = s .unused; log = e ∷ s .log }
+
+-- A check that was not passed: whose, the place and the number of words wanted, and the bounds.
+pub record Shortfall : Type 0 where
+  pub node : ℕ
+  pub at : ℕ
+  pub words : ℕ
+  pub base : ℕ
+  pub end : ℕ
+
+-- "touching a word with no rule is a fourth ending": no-rule.
+pub data Outcome (A : Type 0) : Type 0 where
+  ok : A → State → Outcome A
+  fails : Shortfall → State → Outcome A
+  no-room : State → Outcome A
+  no-rule : State → Outcome A
+
+abbrev pub bind : {A B : Type 0} → Outcome A → (A → State → Outcome B) → Outcome B
+bind (ok a s) f = f a s
+bind (fails x s) f = fails x s
+bind (no-room s) f = no-room s
+bind (no-rule s) f = no-rule s
+
+-- "Variable: its word, with bounds [word, word + 1)." "Variable number i is word 1 + i."
+abbrev pub variable-location : ℕ → Location
+variable-location i = record { at = 1 + i; base = 1 + i; end = 1 + i + 1; access = named i }
+
+-- Words [w, w + k) lie within the bounds of p.
+unfoldable pub in-bounds : Datum → ℕ → ℕ → Bool
+in-bounds p w k = leb (p .base) w && leb (w + k) (p .end)
+
+-- "A check not passed is an abort."
+unfoldable pub checked : ℕ → Datum → ℕ → ℕ → Location → State → Outcome Location
+checked n p w k l s =
+    if in-bounds p w k then ok l s else fails (record { node = n; at = w; words = k; base = p .base; end = p .end }) s
+
+-- "Follow: a pointer v with bounds [b, e) passes when b ≤ v and v + 1 ≤ e. The place is v and keeps [b, e)"
+unfoldable pub deref-step : ℕ → Datum → State → Outcome Location
+deref-step n p s =
+    checked n p (p .value) 1 (record { at = p .value; base = p .base; end = p .end; access = followed p }) s
+
+-- "Field: with w = v + offset and k the field's count, it passes when b ≤ w and w + k ≤ e. The place is w with bounds [w, w + k)."
+unfoldable pub field-step : ℕ → ℕ → ℕ → Datum → State → Outcome Location
+field-step n offset k p s =
+    checked n p (p .value + offset) k
+    (record { at = p .value + offset; base = p .value + offset; end = p .value + offset + k; access = followed p }) s
+
+-- "Reading or assigning word 0, or a word not below U, has no rule."
+unfoldable pub touchable : State → ℕ → Bool
+touchable s w = ltb 0 w && ltb w (s .unused)
+
+-- "Read: a pointer type gives value, base and end of the word; int gives the value without bounds"
+abbrev pub contents : Bool → State → ℕ → Datum
+contents true s w = record { value = word (s .values) w; base = word (s .bases) w; end = word (s .ends) w }
+contents false s w = unbounded (word (s .values) w)
+
+unfoldable pub read-step : Bool → Location → State → Outcome Datum
+read-step pointer l s =
+    if touchable s (l .at) then ok (contents pointer s (l .at)) (noted (loaded (l .at) (l .access)) s) else no-rule s
+
+-- "Address: the place's word with the place's bounds"
+abbrev pub address-step : Location → State → Outcome Datum
+address-step l s = ok (record { value = l .at; base = l .base; end = l .end }) s
+
+-- "Sum: modulo 4,294,967,296. A sum of a pointer and a number moves the pointer .. and keeps its bounds."
+abbrev pub sum-step : ℕ → Datum → Datum → State → Outcome Datum
+sum-step step p x s = ok (record { value = (p .value + step * x .value) % 4294967296; base = p .base; end = p .end }) s
+
+-- "Cast: pointer to pointer keeps everything; from int, or to int, the value is kept without bounds."
+abbrev pub cast-step : Bool → Datum → State → Outcome Datum
+cast-step true p s = ok p s
+cast-step false p s = ok (unbounded (p .value)) s
+
+-- The state after n words from U on were obtained. They are clear: a begun run clears all words, and none is written
+-- while it isn't below U (theorem unused-words-are-clear).
+abbrev pub with-block : ℕ → State → State
+with-block n s =
+    record { values = s .values; bases = s .bases; ends = s .ends; unused = s .unused + n; log = allocated (s .unused) n ∷ s .log }
+
+-- "Obtain n: for n = 0, value 0 without bounds. Else no room exactly when U + n exceeds the length; otherwise value U,
+-- bounds [U, U + n), and U rises by n."
+unfoldable pub malloc-step : Datum → State → Outcome Datum
+malloc-step x s =
+    if eqb (x .value) 0 then ok (unbounded 0) s else
+    if leb (s .unused + x .value) (length (s .values)) then
+    ok (record { value = s .unused; base = s .unused; end = s .unused + x .value }) (with-block (x .value) s) else
+    no-room s
+
+-- "Evaluation is a cycle: a place may need a value worked out first, and a value may need a place. Child a goes before child b"
+unfoldable mutual
+  pub place-at : Place → State → Outcome Location
+  place-at (Variable n i) s = ok (variable-location i) s
+  place-at (Deref n v) s = bind (value-at v s) (deref-step n)
+  place-at (Field n offset k v) s = bind (value-at v s) (field-step n offset k)
+  place-at NoPlace s = no-rule s
+
+  pub value-at : Value → State → Outcome Datum
+  value-at (Number n x) s = ok (unbounded x) s
+  value-at (Sum n step a b) s = bind (value-at a s) (λ p s′. bind (value-at b s′) (sum-step step p))
+  value-at (Read n pointer p) s = bind (place-at p s) (read-step pointer)
+  value-at (Address n p) s = bind (place-at p s) address-step
+  value-at (Cast n keeps v) s = bind (value-at v s) (cast-step keeps)
+  value-at (Malloc n v) s = bind (value-at v s) malloc-step
+  value-at NoValue s = no-rule s
+
+-- "Assign: a pointer type stores value, base and end; int stores the value only, and the word's base and end stay."
+abbrev pub with-datum : Bool → ℕ → Datum → State → State
+with-datum true w x s =
+    record { values = set (s .values) w (x .value); bases = set (s .bases) w (x .base); ends = set (s .ends) w (x .end); unused = s .unused; log = s .log }
+with-datum false w x s =
+    record { values = set (s .values) w (x .value); bases = s .bases; ends = s .ends; unused = s .unused; log = s .log }
+
+unfoldable pub assign-step : Bool → Location → Datum → State → Outcome (Unit {0})
+assign-step pointer l x s =
+    if touchable s (l .at) then ok tt (noted (stored (l .at) (l .access)) (with-datum pointer (l .at) x s)) else no-rule s
+
+-- "a command's place before its value"
+unfoldable pub assign : Bool → Place → Value → State → Outcome (Unit {0})
+assign pointer p v s = bind (place-at p s) (λ l s′. bind (value-at v s′) (assign-step pointer l))

@@ -1,0 +1,79 @@
+-- A whole call: what is answered, and what every lent word holds afterwards.
+use Prim.Native.Nat.{ℕ, zero, suc, _+_}
+use mathlib.Core.List.{[]}
+use lib.ListN.{length, replicate}
+use lib.Seq.{sets}
+use Rattle.semantics.specs.Words.{Words}
+use Rattle.semantics.specs.Table.{variables, commands, count, is-pointer, node-type}
+use Rattle.semantics.specs.Check.{Verdict, passes, refused, command-place, command-value, call-fault}
+use Rattle.semantics.specs.Syntax.{place-of, value-of}
+use Rattle.semantics.specs.Rules.{State, Outcome, ok, fails, no-room, no-rule, assign}
+
+-- "U, the first unused word, starts at 1 + the number of variables." "A begun run first clears all three lists, then
+-- sets each variable's value from the input list, one input a variable."
+unfoldable pub begin : Words → Words → ℕ → State
+begin t inputs len =
+    record { values = sets (replicate len 0) 1 inputs; bases = replicate len 0; ends = replicate len 0; unused = 1 + count t variables; log = [] }
+
+unfoldable pub command : Words → ℕ → State → Outcome (Unit {0})
+command t c = assign (is-pointer (node-type t (command-place t c))) (place-of t (command-place t c)) (value-of t (command-value t c))
+
+-- done, abort and no room; stuck is "touching a word with no rule".
+pub data Ending : Type 0 where
+  done : Ending
+  abort : (command : ℕ) → Ending
+  out-of-memory : (command : ℕ) → Ending
+  stuck : (command : ℕ) → Ending
+
+pub record Run : Type 0 where
+  pub ending : Ending
+  pub state : State
+
+abbrev pub ended : Ending → State → Run
+ended e s = record { ending = e; state = s }
+
+-- How command c's outcome ends the run, if it does.
+abbrev pub after-command : ℕ → Outcome (Unit {0}) → Run
+after-command c (ok x s) = ended done s
+after-command c (fails x s) = ended (abort c) s
+after-command c (no-room s) = ended (out-of-memory c) s
+after-command c (no-rule s) = ended (stuck c) s
+
+-- "The first abort or no room ends the run at that command": command c is run only where all before it were done.
+abbrev pub then-command : Words → ℕ → Ending → State → Run
+then-command t c done s = after-command c (command t c s)
+then-command t c (abort d) s = ended (abort d) s
+then-command t c (out-of-memory d) s = ended (out-of-memory d) s
+then-command t c (stuck d) s = ended (stuck d) s
+
+-- The commands below c in order, from any state.
+unfoldable pub commands-below : Words → ℕ → State → Run
+commands-below t zero s = ended done s
+commands-below t (suc c) s = then-command t c (commands-below t c s .ending) (commands-below t c s .state)
+
+unfoldable pub run : Words → Words → ℕ → Run
+run t inputs len = commands-below t (count t commands) (begin t inputs len)
+
+-- "Every run answers its ending and U; abort and no room add the command number."
+pub data Answer : Type 0 where
+  refusal : (number at : ℕ) → Answer
+  ending : Ending → (unused : ℕ) → Answer
+
+pub record Result : Type 0 where
+  pub answer : Answer
+  pub values : Words
+  pub bases : Words
+  pub ends : Words
+
+abbrev pub result-of : Run → Result
+result-of r =
+    record { answer = ending (r .ending) (r .state .unused); values = r .state .values; bases = r .state .bases; ends = r .state .ends }
+
+-- "A refusal answers number and place and writes nowhere."
+abbrev pub call-by : Verdict → Words → Words → Words → Words → Words → Result
+call-by passes t inputs values bases ends = result-of (run t inputs (length values))
+call-by (refused n p) t inputs values bases ends = record { answer = refusal n p; values = values; bases = bases; ends = ends }
+
+unfoldable pub call : Words → Words → Words → Words → Words → Result
+call t inputs values bases ends =
+    call-by (call-fault t inputs (length values) (length bases) (length ends)) t inputs values bases ends

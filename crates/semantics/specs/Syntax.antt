@@ -1,0 +1,82 @@
+-- Places and values as trees (source document 004, figure 1), and elaboration: the tree of each node of a table.
+-- What is known before the run is settled here: sizes, offsets and counts of fields, and where a type says how much is moved.
+use Prim.Native.Nat.{ℕ}
+use mathlib.Core.Bool.{Bool, _&&_}
+use mathlib.Core.List.{List}
+use lib.ListN.{getD}
+use Rattle.semantics.specs.Words.{Words, grow}
+use Rattle.semantics.specs.Table.{is-pointer, pointed-record, field-offset, field-count, size-of, Kind, variable, deref, field, constant, sum, read, address, cast, size, malloc, unknown, node-kind, node-a, node-b, node-type}
+
+-- Each constructor begins with its node's number.
+mutual
+  pub data Place : Type 0 where
+    Variable : (node number : ℕ) → Place
+    Deref : (node : ℕ) → Value → Place
+    Field : (node offset words : ℕ) → Value → Place
+    NoPlace : Place
+
+  pub data Value : Type 0 where
+    -- a constant or a size: its number
+    Number : (node number : ℕ) → Value
+    -- step: the words by which 1 moves the left operand
+    Sum : (node step : ℕ) → Value → Value → Value
+    -- pointer: whether the word read is of a pointer type
+    Read : (node : ℕ) (pointer : Bool) → Place → Value
+    Address : (node : ℕ) → Place → Value
+    -- keeps: whether bounds are kept, from pointer to pointer
+    Cast : (node : ℕ) (keeps : Bool) → Value → Value
+    Malloc : (node : ℕ) → Value → Value
+    NoValue : Value
+
+-- The tree of a node, or none where the node makes no sense.
+pub data Tree : Type 0 where
+  place : Place → Tree
+  value : Value → Tree
+  senseless : Tree
+
+abbrev pub as-place : Tree → Place
+as-place (place p) = p
+as-place (value v) = NoPlace
+as-place senseless = NoPlace
+
+abbrev pub as-value : Tree → Value
+as-value (place p) = NoValue
+as-value (value v) = v
+as-value senseless = NoValue
+
+-- "A sum of a pointer and a number moves the pointer by that many words, whichever type it points to"
+abbrev pub step-of : Words → ℕ → ℕ
+step-of t ty = 1
+
+-- The tree of node n of this kind with these two other words, from the trees of the nodes before it.
+-- A child that isn't before it has no tree there.
+abbrev pub tree-by-kind : Words → ℕ → Kind → ℕ → ℕ → List Tree → Tree
+tree-by-kind t n variable a b trees = place (Variable n a)
+tree-by-kind t n deref a b trees = place (Deref n (as-value (getD trees a senseless)))
+tree-by-kind t n field a b trees =
+    place (Field n (field-offset t (pointed-record t (node-type t a)) b) (field-count t (pointed-record t (node-type t a)) b) (as-value (getD trees a senseless)))
+tree-by-kind t n constant a b trees = value (Number n a)
+tree-by-kind t n sum a b trees =
+    value (Sum n (step-of t (node-type t a)) (as-value (getD trees a senseless)) (as-value (getD trees b senseless)))
+tree-by-kind t n read a b trees = value (Read n (is-pointer (node-type t n)) (as-place (getD trees a senseless)))
+tree-by-kind t n address a b trees = value (Address n (as-place (getD trees a senseless)))
+tree-by-kind t n cast a b trees =
+    value (Cast n (is-pointer (node-type t a) && is-pointer b) (as-value (getD trees a senseless)))
+tree-by-kind t n size a b trees = value (Number n (size-of t a))
+tree-by-kind t n malloc a b trees = value (Malloc n (as-value (getD trees a senseless)))
+tree-by-kind t n unknown a b trees = senseless
+
+unfoldable pub tree-rule : Words → ℕ → List Tree → Tree
+tree-rule t n trees = tree-by-kind t n (node-kind t n) (node-a t n) (node-b t n) trees
+
+unfoldable pub trees-below : Words → ℕ → List Tree
+trees-below t n = grow (tree-rule t) n
+
+unfoldable pub tree-of : Words → ℕ → Tree
+tree-of t n = tree-rule t n (trees-below t n)
+
+unfoldable pub place-of : Words → ℕ → Place
+place-of t n = as-place (tree-of t n)
+
+unfoldable pub value-of : Words → ℕ → Value
+value-of t n = as-value (tree-of t n)

@@ -1,0 +1,34 @@
+-- Lists of words, and the four ways in which the definitions go over numbers: a choice, a sum, the least, a list that grows.
+use Prim.Native.Nat.{ℕ, zero, suc, _+_}
+use mathlib.Core.Bool.{Bool, true, false}
+use mathlib.Core.List.{List, [], _∷_, _++_}
+use lib.ListN.{getD}
+use lib.Dec.{ltb}
+
+-- A table, an input list and each list of the lent memory.
+abbrev pub Words : Type 0
+Words = List ℕ
+
+-- Word i of a list, 0 past its end.
+abbrev pub word : Words → ℕ → ℕ
+word l i = getD l i 0
+
+infixr 20 if_then_else_
+abbrev pub if_then_else_ : {A : Type 0} → Bool → A → A → A
+if true then a else b = a
+if false then a else b = b
+
+-- The sum of f over the numbers below n.
+unfoldable pub sum-below : ℕ → (ℕ → ℕ) → ℕ
+sum-below zero f = 0
+sum-below (suc n) f = sum-below n f + f n
+
+-- The least number below n that p holds of, or n if there is none.
+unfoldable pub least-below : ℕ → (ℕ → Bool) → ℕ
+least-below zero p = 0
+least-below (suc n) p = if ltb (least-below n p) n then least-below n p else if p n then n else suc n
+
+-- The list of f at 0, 1, .. below n, where f is also given the list so far.
+unfoldable pub grow : {A : Type 0} → (ℕ → List A → A) → ℕ → List A
+grow f zero = []
+grow f (suc n) = grow f n ++ (f n (grow f n) ∷ [])
