@@ -1,0 +1,4 @@
+-- Laws that the functions' proofs cite.
+pub mod Memory
+pub mod Finish
+pub mod Nodes

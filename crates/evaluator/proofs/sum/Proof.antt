@@ -1,0 +1,15 @@
+-- `evaluator::sum` meets its contract. Assumes nothing.
+use borrow.Author.Needs.{needs}
+use native.Mathlib.Omega.{arith}
+use Rattle.evaluator.proofs.Finish.{sum-ended, sum-done}
+use Rattle.evaluator.proofs.sum.Statement.{statement}
+use Rattle.evaluator.proofs.sum.Tie as tie
+
+returns : tie.Need-returns
+returns c = sum-ended (c .if1 .taken)
+
+returns-2 : tie.Need-returns-2
+returns-2 c = sum-done (c .before .before .before .before .if1 .left) (omega arith) (c .long .ensures .1)
+
+pub sum-spec : {M : Type 1} → statement M
+sum-spec = tie.close (tie.spec returns (λ c κs. search needs) (λ c κs. search needs) (λ c κs. search needs) (λ c κs. search needs) returns-2)

@@ -1,0 +1,12 @@
+-- `evaluator::variable` meets its contract. Assumes nothing.
+use borrow.Author.Needs.{needs}
+use mathlib.Core.Path.{refl}
+use Rattle.evaluator.proofs.Finish.{variable-answered}
+use Rattle.evaluator.proofs.variable.Statement.{statement}
+use Rattle.evaluator.proofs.variable.Tie as tie
+
+returns : tie.Need-returns
+returns c = variable-answered refl (c .long .ensures .0) refl refl (c .long .ensures .1)
+
+pub variable-spec : {M : Type 1} → statement M
+variable-spec = tie.close (tie.spec (λ c. search needs) (λ c. search needs) (λ c κs. search needs) returns)

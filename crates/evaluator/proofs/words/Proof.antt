@@ -1,0 +1,13 @@
+-- `evaluator::words` meets its contract. Assumes nothing.
+use mathlib.Core.Path.{sym, ap}
+use borrow.Author.Needs.{needs}
+use lib.ListN.{length}
+use Rattle.evaluator.proofs.Memory.{element}
+use Rattle.evaluator.proofs.words.Statement.{statement}
+use Rattle.evaluator.proofs.words.Tie as tie
+
+returns : tie.Need-returns
+returns c = ap length (sym (element (c .args .m .now) 0))
+
+pub words-spec : {M : Type 1} → statement M
+words-spec = tie.close (tie.spec (λ c. search needs) returns)

@@ -1,0 +1,3 @@
+-- What the evaluator works on, and what its functions answer.
+pub mod Code
+pub mod Result
