@@ -1,0 +1,87 @@
+-- Laws of verdicts, of loops over them and of the entries of a section.
+use Prim.Native.Nat.{ℕ, zero, suc, _+_, _*_, _≤_, _<_}
+use mathlib.Core.Bool.{Bool, true, false}
+use mathlib.Core.Path.{_≡_, refl, sym, _∙_}
+use native.Mathlib.Omega.{arith}
+use native.Mathlib.Nat.{not-suc-le-zero}
+use native.Mathlib.Numerals.{add-one}
+use native.Mathlib.Decide.{ℕ-discrete}
+use lib.ListN.{length, set}
+use lib.Seq.{getD-set-same, getD-set-other}
+use Rattle.semantics.specs.Words.{Words, word, sum-below}
+use Rattle.semantics.specs.Table.{entry-words, item-place, item}
+use Rattle.semantics.specs.Check.{Verdict, passes, refused, _or-else_, require, each}
+use Rattle.layout.specs.Layout.{Stands}
+use Rattle.layout.specs.Types.{Tabulated, Checked}
+use Rattle.layout.specs.declared.Verdict.the-variants.{Refused}
+use Rattle.layout.specs.declared.Section.{Section}
+
+pub require-holds : (b : Bool) (n p : ℕ) → b ≡ true → require b n p ≡ passes
+unfolding require
+require-holds b n p e = rw e refl
+
+pub require-refuses : (b : Bool) (n p : ℕ) → b ≡ false → require b n p ≡ refused n p
+unfolding require
+require-refuses b n p e = rw e refl
+
+pub or-else-pass : (u v : Verdict) → u ≡ passes → u or-else v ≡ v
+unfolding _or-else_
+or-else-pass u v e = rw e refl
+
+pub or-else-refuse : (u v : Verdict) {n p : ℕ} → u ≡ refused n p → u or-else v ≡ refused n p
+unfolding _or-else_
+or-else-refuse u v e = rw e refl
+
+module _ (f : ℕ → Verdict) (i : ℕ) (before : each i f ≡ passes) where
+  -- A turn that passes.
+  pub each-more : f i ≡ passes → each (i + 1) f ≡ passes
+  unfolding each
+  each-more e = rw (add-one i) (or-else-pass (each i f) (f i) before ∙ e)
+
+  -- The first refusal is the refusal of the whole.
+  pub each-refuses : (n : ℕ) {a p : ℕ} → i < n → f i ≡ refused a p → refused a p ≡ each n f
+  unfolding each
+  each-refuses zero h r = absurd (not-suc-le-zero h)
+  each-refuses (suc n) {a} {p} h r = go (ℕ-discrete i n) (λ (less : i < n). each-refuses n less r)
+    where
+      go : Dec (i ≡ n) → (i < n → refused a p ≡ each n f) → refused a p ≡ each n f or-else f n
+      go (yes q) below = sym (or-else-pass (each n f) (f n) (rw q at before) ∙ rw q at r)
+      go (no q) below = sym (or-else-refuse (each n f) (f n) (sym (below (omega arith))))
+
+pub each-all : (f : ℕ → Verdict) (i n : ℕ) → i ≡ n → each i f ≡ passes → passes ≡ each n f
+each-all f i n e h = sym (rw e at h)
+
+-- A refusal promises nothing of the lists.
+pub refusal : {v : Verdict} {P : Type 0} {n p : ℕ} → refused n p ≡ v → Checked (Refused n p) v P
+refusal {n} {p} e = record { verdict = e; found = λ q. absurd (let z : _≡_ {A = ℕ} 0 1 = cc in omega arith) }
+
+pub sum-more : (f : ℕ → ℕ) (i : ℕ) → sum-below (i + 1) f ≡ sum-below i f + f i
+unfolding sum-below
+sum-more f i = rw (add-one i) refl
+
+-- A list that is filled from its start.
+pub tabulated-none : (l : Words) (g : ℕ → ℕ) → 0 < length l → g 0 ≡ 0 → Tabulated (set l 0 0) 0 g
+tabulated-none l g h e = record { holds = λ k less. go k (omega arith) }
+  where
+    go : (k : ℕ) → k ≡ 0 → word (set l 0 0) k ≡ g k
+    go k q = rw (q, e) (getD-set-same l 0 0 0 h)
+
+pub tabulated-more : (l : Words) (i v : ℕ) (g : ℕ → ℕ) → i + 1 < length l → v ≡ g (i + 1) → Tabulated l i g → Tabulated (set l (i + 1) v) (i + 1) g
+tabulated-more l i v g h e before = record { holds = λ k less. go k less (ℕ-discrete k (i + 1)) }
+  where
+    go : (k : ℕ) → k ≤ i + 1 → Dec (k ≡ i + 1) → word (set l (i + 1) v) k ≡ g k
+    go k less (yes q) = rw q (getD-set-same l (i + 1) v 0 h ∙ e)
+    go k less (no q) = getD-set-other l (i + 1) k v 0 q ∙ before .holds k (omega arith)
+
+pub tabulated-all : {l : Words} {g : ℕ → ℕ} (i n : ℕ) → i ≡ n → Tabulated l i g → Tabulated l n g
+tabulated-all i n e h = rw e at h
+
+-- Word j of entry i of a section that stands at l.
+module _ {t : Words} {s : ℕ} {l : Section} (h : Stands t s l) (i j p : ℕ) (e : p ≡ l .at + word entry-words s * i + j) where
+  pub place-at : item-place t s i j ≡ p
+  unfolding item-place
+  place-at = omega (arith, h .first)
+
+  pub item-at : item t s i j ≡ word t p
+  unfolding item
+  item-at = rw place-at refl

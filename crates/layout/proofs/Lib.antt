@@ -1,0 +1,4 @@
+-- Laws that the proofs of the functions share.
+pub mod Laws
+pub mod Sections
+pub mod Types

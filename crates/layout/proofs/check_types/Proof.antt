@@ -1,0 +1,128 @@
+-- `layout::check_types` meets its contract: its parts are checked in the order of `types-fault`.
+use mathlib.Core.Path.{_≡_, refl, sym, _∙_, ap}
+use Prim.Native.Nat.{_≤_}
+use native.Mathlib.Omega.{arith}
+use borrow.Author.Needs.{needs}
+use denote.Ref.{now}
+use Rattle.semantics.specs.Table.{count, first-field}
+use Rattle.semantics.specs.Check.{passes, each, record-fault, field-fault, pointer-fault}
+use Rattle.layout.specs.Layout.{verdict-of}
+use Rattle.layout.proofs.Laws.{refusal}
+use Rattle.layout.proofs.Types.{record-refused, sum-refused, field-refused, pointer-refused, past-pointers}
+use Rattle.layout.proofs.check_types.Statement.{statement}
+use Rattle.layout.proofs.check_types.Tie as tie
+
+check-records-requires : tie.Need-check-records-requires
+check-records-requires c κs = c .before .before .before .before .before .pre .0 .records-stand
+
+enum-known-n : tie.Need-enum-known-n
+enum-known-n c = search needs
+
+returns : tie.Need-returns
+returns c = refusal (record-refused _ (ap verdict-of (sym (c .before .n .given .1)) ∙ c .before .before .before .check-records .ensures))
+
+enum-told : tie.Need-enum-told
+enum-told c = search needs
+
+records-pass : (c : tie.After-enum-told) → passes ≡ each (count (now (c .before .before .before .before .before .before .before .before .args .t)) 0) (record-fault (now (c .before .before .before .before .before .before .before .before .args .t)))
+records-pass c = ap verdict-of (sym (c .enum-told .given .1)) ∙ c .before .before .check-records .ensures
+
+total-fields-requires : tie.Need-total-fields-requires
+total-fields-requires c κs = c .before .before .before .before .before .before .before .before .pre .0 .records-stand
+
+sub-t19 : tie.Need-sub-t19
+sub-t19 c = let h = c .before .before .before .before .before .before .before .before .before .before .before .before .pre .0 .fields-stand in omega arith
+
+returns-2 : tie.Need-returns-2
+returns-2 c =
+    let h = c .before .before .before .before .before .before .before .before .before .before .before .before .pre .0 .fields-stand in
+    refusal
+    (sum-refused _ (records-pass (c .before .before .before .before)) _ (omega arith)
+    (λ e. c .before .if1 .taken (c .before .before .before .total-fields .ensures ∙ e ∙ sym (h .total))))
+
+sum-right : (c : tie.Else1) → first-field (now (c .before .before .before .before .before .before .before .before .before .before .before .args .t)) (count (now (c .before .before .before .before .before .before .before .before .before .before .before .args .t)) 0) ≡ count (now (c .before .before .before .before .before .before .before .before .before .before .before .args .t)) 1
+sum-right c = sym (c .before .before .total-fields .ensures) ∙ c .if1 .left ∙ c .before .before .before .before .before .before .before .before .before .before .before .pre .0 .fields-stand .total
+
+note-first-requires : tie.Need-note-first-requires
+note-first-requires c κs =
+    let p = c .before .before .before .before .before .before .before .before .before .before .before .before .pre in
+    let h = p .0 .fields-stand in
+    (p .0 .records-stand, (omega (arith, sum-right (c .before)), p .1 .first-length))
+
+check-fields-requires : tie.Need-check-fields-requires
+check-fields-requires c κs = let p = c .before .before .before .before .before .before .before .before .before .before .before .before .before .before .pre in let h = p .0 .pointers-stand in (p .0 .fields-stand, h .total, h .limited, p .1 .before-length)
+
+enum-known-n-2 : tie.Need-enum-known-n-2
+enum-known-n-2 c = search needs
+
+returns-3 : tie.Need-returns-3
+returns-3 c =
+    let d = c .before .before .before .before .before .before .before in
+    refusal
+    (field-refused _ (records-pass (d .before .before .before)) (sum-right d) (ap verdict-of (sym (c .before .n2 .given .1)) ∙ c .before .before .before .check-fields .ensures .verdict))
+
+enum-told-2 : tie.Need-enum-told-2
+enum-told-2 c = search needs
+
+fields-pass : (c : tie.After-enum-told2) → passes ≡ each (count (now (c .before .before .before .before .before .before .before .before .before .before .before .before .before .before .before .before .before .args .t)) 1) (field-fault (now (c .before .before .before .before .before .before .before .before .before .before .before .before .before .before .before .before .before .args .t)))
+fields-pass c = ap verdict-of (sym (c .enum-told2 .given .1)) ∙ c .before .before .check-fields .ensures .verdict
+
+check-pointers-requires : tie.Need-check-pointers-requires
+check-pointers-requires c κs = let p = c .before .before .before .before .before .before .before .before .before .before .before .before .before .before .before .before .before .before .pre in let h = p .0 .records-stand in (p .0 .pointers-stand, h .total, h .limited, p .1 .entry-clear)
+
+enum-known-n-3 : tie.Need-enum-known-n-3
+enum-known-n-3 c = search needs
+
+returns-4 : tie.Need-returns-4
+returns-4 c =
+    let d = c .before .before .before .before .before .before .before .before .before .before .before in
+    let e = c .before .before .before .before .before in
+    refusal
+    (pointer-refused _ (records-pass (d .before .before .before)) (sum-right d) (fields-pass e) (ap verdict-of (sym (c .before .n3 .given .1)) ∙ c .before .before .before .check-pointers .ensures .verdict))
+
+enum-told-3 : tie.Need-enum-told-3
+enum-told-3 c = search needs
+
+pointers-pass : (c : tie.After-enum-told3) → passes ≡ each (count (now (c .before .before .before .before .before .before .before .before .before .before .before .before .before .before .before .before .before .before .before .before .before .args .t)) 2) (pointer-fault (now (c .before .before .before .before .before .before .before .before .before .before .before .before .before .before .before .before .before .before .before .before .before .args .t)))
+pointers-pass c = ap verdict-of (sym (c .enum-told3 .given .1)) ∙ c .before .before .check-pointers .ensures .verdict
+
+check-variables-requires : tie.Need-check-variables-requires
+check-variables-requires c κs = let p = c .before .before .before .before .before .before .before .before .before .before .before .before .before .before .before .before .before .before .before .before .before .pre .0 in let h = p .pointers-stand in (p .variables-stand, h .total, h .limited)
+
+returns-5 : tie.Need-returns-5
+returns-5 c =
+    let d = c .before .before .before .before .before .before .before .before .before .before .before in
+    let e = c .before .before .before .before .before in
+    let f = c .before in
+    record {
+      verdict = c .check-variables .ensures ∙ past-pointers _ (records-pass (d .before .before .before)) (sum-right d) (fields-pass e) (pointers-pass f);
+      found = λ q.
+          record {
+            firsts = c .before .before .before .before .before .before .before .before .before .note-first .ensures;
+            befores = c .before .before .before .before .before .before .before .check-fields .ensures .found (sym (fields-pass e));
+            marks = c .before .before .before .check-pointers .ensures .found (sym (pointers-pass f));
+          };
+    }
+
+pub check-types-spec : {M : Type 1} → statement M
+check-types-spec =
+    tie.close
+    (tie.spec
+    check-records-requires
+    enum-known-n
+    returns
+    enum-told
+    total-fields-requires
+    sub-t19
+    returns-2
+    note-first-requires
+    check-fields-requires
+    enum-known-n-2
+    returns-3
+    enum-told-2
+    check-pointers-requires
+    enum-known-n-3
+    returns-4
+    enum-told-3
+    check-variables-requires
+    returns-5)

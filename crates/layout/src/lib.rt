@@ -1,0 +1,307 @@
+// The layout of a table, and the check of everything before its nodes: sections, records, fields, pointers, variables.
+ghost use mathlib.Core.Path.{_≡_};
+ghost use Prim.Native.Nat.{ℕ, _+_, _<_, _≤_, _^_};
+ghost use lib.ListN.{length, replicate};
+ghost use Rattle.semantics.specs.Words.{Words, word};
+ghost use Rattle.semantics.specs.Table.{count-place, count, entry-words, limits, known-type, known-target, first-field};
+ghost use Rattle.semantics.specs.Check.{each, section-fault, record-fault, field-fault, pointer-fault, variable-fault};
+ghost use Rattle.layout.specs.Layout.{verdict-of, section-by, parsed, Stands, Laid-out};
+ghost use Rattle.layout.specs.Types.{types-fault, slot, words-before, Tabulated, Marks, Room, Checked, Looked-up};
+
+// Where a section's first entry stands, and how many entries it has.
+pub struct Section {
+    pub at: usize,
+    pub count: usize,
+}
+
+// The layout of a table: its six sections.
+pub struct Table {
+    pub records: Section,
+    pub fields: Section,
+    pub pointers: Section,
+    pub variables: Section,
+    pub nodes: Section,
+    pub commands: Section,
+}
+
+enum ParsedSection {
+    Is(Section),
+    Refused(u32, usize),
+}
+
+// A layout, or the number and the place of the refusal.
+pub enum Parsed {
+    Is(Table),
+    Refused(u32, usize),
+}
+
+pub enum Verdict {
+    Passes,
+    Refused(u32, usize),
+}
+
+pub fn index(x: u32) -> usize
+    ensures { λ r. ⌜ (r ≡ x) × (r < 2 ^ 32) ⌝ }
+{
+    x as usize
+}
+
+pub fn long(x: u32) -> u64
+    ensures { λ r. ⌜ (r ≡ x) × (r < 2 ^ 32) ⌝ }
+{
+    x as u64
+}
+
+impl Section {
+    // The section whose count stands at `place` and whose entries have `words` words each, or the refusal (1, 3, then 1).
+    fn parse(t: &[u32], place: usize, words: usize, limit: u32) -> ParsedSection
+        requires { ⌜ (place ≤ length (now t)) × (words ≤ 3) × (limit ≤ 512) ⌝ }
+        ensures { λ r. ⌜ ((s : ℕ) → place ≡ count-place (now (t .entry)) s → words ≡ word entry-words s → limit ≡ word limits s → r ≡ section-by (now (t .entry)) s (section-fault (now (t .entry)) s)) ⌝ }
+    {
+        let length = t.len();
+        if length <= place {
+            return ParsedSection::Refused(1, length);
+        }
+        let total = t[place];
+        if limit < total {
+            return ParsedSection::Refused(3, place);
+        }
+        let at = place + 1;
+        let count = index(total);
+        if length - at < words * count {
+            return ParsedSection::Refused(1, length);
+        }
+        ParsedSection::Is(Section { at, count })
+    }
+}
+
+impl Table {
+    pub const RECORDS: u32 = 32;
+
+    pub const FIELDS: u32 = 128;
+
+    pub const POINTERS: u32 = 64;
+
+    pub const VARIABLES: u32 = 64;
+
+    pub const NODES: u32 = 512;
+
+    pub const COMMANDS: u32 = 256;
+
+    pub const FIELD_WORDS: u32 = 4096;
+    // The target that is record 0.
+    pub const RECORD: u32 = 65536;
+
+    // The layout of a table, or the refusal: the sections in turn (1, 3, then 1), then words over (2).
+    pub fn parse(t: &[u32]) -> Parsed
+        ensures { λ r. ⌜ r ≡ parsed (now (t .entry)) ⌝ }
+    {
+        let records = match Section::parse(t, 0, 1, Table::RECORDS) {
+            ParsedSection::Is(s) => s,
+            ParsedSection::Refused(n, p) => return Parsed::Refused(n, p),
+        };
+        let fields = match Section::parse(t, records.at + records.count, 2, Table::FIELDS) {
+            ParsedSection::Is(s) => s,
+            ParsedSection::Refused(n, p) => return Parsed::Refused(n, p),
+        };
+        let pointers = match Section::parse(t, fields.at + 2 * fields.count, 1, Table::POINTERS) {
+            ParsedSection::Is(s) => s,
+            ParsedSection::Refused(n, p) => return Parsed::Refused(n, p),
+        };
+        let variables = match Section::parse(t, pointers.at + pointers.count, 1, Table::VARIABLES) {
+            ParsedSection::Is(s) => s,
+            ParsedSection::Refused(n, p) => return Parsed::Refused(n, p),
+        };
+        let nodes = match Section::parse(t, variables.at + variables.count, 3, Table::NODES) {
+            ParsedSection::Is(s) => s,
+            ParsedSection::Refused(n, p) => return Parsed::Refused(n, p),
+        };
+        let commands = match Section::parse(t, nodes.at + 3 * nodes.count, 2, Table::COMMANDS) {
+            ParsedSection::Is(s) => s,
+            ParsedSection::Refused(n, p) => return Parsed::Refused(n, p),
+        };
+        let end = commands.at + 2 * commands.count;
+        if end < t.len() {
+            return Parsed::Refused(2, end);
+        }
+        Parsed::Is(Table {
+            records,
+            fields,
+            pointers,
+            variables,
+            nodes,
+            commands,
+        })
+    }
+}
+
+// x is int, pointer to void or one of the pointer entries.
+pub fn known_type(pointers: usize, x: u32) -> bool
+    requires { ⌜ pointers ≤ 64 ⌝ }
+    ensures { λ r. ⌜ ((t : Words) → pointers ≡ count t 2 → r ≡ known-type t x) ⌝ }
+{
+    index(x) < 2 + pointers
+}
+
+// x is a known type, or 65,536 + the number of a record.
+pub fn known_target(records: usize, pointers: usize, x: u32) -> bool
+    requires { ⌜ (records ≤ 32) × (pointers ≤ 64) ⌝ }
+    ensures { λ r. ⌜ ((t : Words) → records ≡ count t 0 → pointers ≡ count t 2 → r ≡ known-target t x) ⌝ }
+{
+    if x < Table::RECORD {
+        known_type(pointers, x)
+    } else {
+        index(x - Table::RECORD) < records
+    }
+}
+
+// Where the pointer to a known target is noted.
+pub fn target_slot(x: u32) -> usize
+    ensures { λ r. ⌜ r ≡ slot x ⌝ }
+{
+    if x < Table::RECORD {
+        index(x)
+    } else {
+        66 + index(x - Table::RECORD)
+    }
+}
+
+// 4 for the first record without fields.
+fn check_records(t: &[u32], records: Section) -> Verdict
+    requires { ⌜ Stands (now t) 0 records ⌝ }
+    ensures { λ r. ⌜ verdict-of r ≡ each (count (now (t .entry)) 0) (record-fault (now (t .entry))) ⌝ }
+{
+    let at = records.at;
+    let count = records.count;
+    for i in 0..count {
+        if t[at + i] == 0 {
+            return Verdict::Refused(4, at + i);
+        }
+    }
+    Verdict::Passes
+}
+
+// The number of fields of all records together.
+fn total_fields(t: &[u32], records: Section) -> usize
+    requires { ⌜ Stands (now t) 0 records ⌝ }
+    ensures { λ r. ⌜ r ≡ first-field (now (t .entry)) (count (now (t .entry)) 0) ⌝ }
+{
+    let at = records.at;
+    let n = records.count;
+    let mut sum = 0;
+    for i in 0..n {
+        sum += index(t[at + i]);
+    }
+    sum
+}
+
+// Notes the first field of each record, and their number after the last.
+fn note_first(t: &[u32], records: Section, first: &mut [u32; 33])
+    requires { ⌜ Stands (now t) 0 records ⌝ }
+    requires { ⌜ (first-field (now t) (count (now t) 0) ≤ 128) × (length (now first) ≡ 33) ⌝ }
+    ensures { λ r. ⌜ Tabulated (now (first .exit)) (count (now (t .entry)) 0) (first-field (now (t .entry))) ⌝ }
+{
+    let at = records.at;
+    let last = records.count;
+    let mut sum = 0;
+    first[0] = 0;
+    for i in 0..last {
+        sum += t[at + i];
+        first[i + 1] = sum;
+    }
+}
+
+// 5 and 4 for the first field of an unknown type or of a wrong count of words. Notes the words before each field, and of all.
+fn check_fields(t: &[u32], fields: Section, pointers: usize, before: &mut [u32; 129]) -> Verdict
+    requires { ⌜ (Stands (now t) 1 fields) × (pointers ≡ count (now t) 2) × (pointers ≤ 64) × (length (now before) ≡ 129) ⌝ }
+    ensures { λ r. ⌜ Checked r (each (count (now (t .entry)) 1) (field-fault (now (t .entry)))) (Tabulated (now (before .exit)) (count (now (t .entry)) 1) (words-before (now (t .entry)))) ⌝ }
+{
+    let at = fields.at;
+    let count = fields.count;
+    let mut sum = 0;
+    before[0] = 0;
+    for i in 0..count {
+        let field = at + 2 * i;
+        if !known_type(pointers, t[field]) {
+            return Verdict::Refused(5, field);
+        }
+        let words = t[field + 1];
+        if words < 1 || Table::FIELD_WORDS < words {
+            return Verdict::Refused(4, field + 1);
+        }
+        sum += words;
+        before[i + 1] = sum;
+    }
+    Verdict::Passes
+}
+
+// 5 and 6 for the first pointer with an unknown target or one seen before. Notes the pointer to each target.
+fn check_pointers(t: &[u32], pointers: Section, records: usize, entry: &mut [u32; 98]) -> Verdict
+    requires { ⌜ (Stands (now t) 2 pointers) × (records ≡ count (now t) 0) × (records ≤ 32) × (now entry ≡ replicate 98 0) ⌝ }
+    ensures { λ r. ⌜ Checked r (each (count (now (t .entry)) 2) (pointer-fault (now (t .entry)))) (Marks (now (t .entry)) (now (entry .exit)) (count (now (t .entry)) 2)) ⌝ }
+{
+    let at = pointers.at;
+    let count = pointers.count;
+    let mut mark = 2;
+    for i in 0..count {
+        let place = at + i;
+        let x = t[place];
+        if !known_target(records, count, x) {
+            return Verdict::Refused(5, place);
+        }
+        let k = target_slot(x);
+        if entry[k] != 0 {
+            return Verdict::Refused(6, place);
+        }
+        entry[k] = mark;
+        mark += 1;
+    }
+    Verdict::Passes
+}
+
+// 5 for the first variable of an unknown type.
+fn check_variables(t: &[u32], variables: Section, pointers: usize) -> Verdict
+    requires { ⌜ (Stands (now t) 3 variables) × (pointers ≡ count (now t) 2) × (pointers ≤ 64) ⌝ }
+    ensures { λ r. ⌜ verdict-of r ≡ each (count (now (t .entry)) 3) (variable-fault (now (t .entry))) ⌝ }
+{
+    let at = variables.at;
+    let count = variables.count;
+    for i in 0..count {
+        if !known_type(pointers, t[at + i]) {
+            return Verdict::Refused(5, at + i);
+        }
+    }
+    Verdict::Passes
+}
+
+// Refusals 4 to 6 of sections 1 to 4. Where these pass, the three lists are filled with what the check of nodes looks up.
+pub fn check_types(
+    t: &[u32],
+    l: Table,
+    first: &mut [u32; 33],
+    before: &mut [u32; 129],
+    entry: &mut [u32; 98],
+) -> Verdict
+    requires { ⌜ Laid-out (now t) l ⌝ }
+    requires { ⌜ Room (now first) (now before) (now entry) ⌝ }
+    ensures { λ r. ⌜ Checked r (types-fault (now (t .entry))) (Looked-up (now (t .entry)) (now (first .exit)) (now (before .exit)) (now (entry .exit))) ⌝ }
+{
+    let records = l.records;
+    let fields = l.fields;
+    let pointers = l.pointers;
+    let variables = l.variables;
+    if let Verdict::Refused(n, p) = check_records(t, records) {
+        return Verdict::Refused(n, p);
+    }
+    if total_fields(t, records) != fields.count {
+        return Verdict::Refused(4, fields.at - 1);
+    }
+    note_first(t, records, first);
+    if let Verdict::Refused(n, p) = check_fields(t, fields, pointers.count, before) {
+        return Verdict::Refused(n, p);
+    }
+    if let Verdict::Refused(n, p) = check_pointers(t, pointers, records.count, entry) {
+        return Verdict::Refused(n, p);
+    }
+    check_variables(t, variables, pointers.count)
+}
