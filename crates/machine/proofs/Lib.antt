@@ -1,2 +1,4 @@
 -- Laws that the functions' proofs cite.
 pub mod Commands
+pub mod Lists
+pub mod Execution

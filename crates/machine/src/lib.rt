@@ -1,7 +1,11 @@
 // Runs a table: the commands in order over the three lists of the memory.
 ghost use mathlib.Core.Path.{_≡_};
 ghost use Prim.Native.Nat.{ℕ, _+_, _≤_, _<_, _^_};
-ghost use lib.ListN.{length};
+ghost use mathlib.Core.List.{[]};
+ghost use lib.ListN.{length, replicate};
+ghost use lib.Seq.{sets};
+ghost use Rattle.evaluator.specs.Result.{state-of};
+ghost use Rattle.machine.specs.Run.{Executable, Executed};
 ghost use Rattle.machine.specs.Command.{lists, Command-ready, Evaluated, Stored, Command-answered};
 
 // From 2^32 on, an answer says how evaluation ended.
@@ -101,4 +105,74 @@ fn command(
     }
     store(values, bases, ends, index(at), pointer, low(r), base, end);
     0
+}
+
+// How a call ended: refused with number and place; done with U; aborted or out of memory with command number and U.
+pub enum Answer {
+    Refused(u32, usize),
+    Done(u32),
+    Abort(u32, u32),
+    NoRoom(u32, u32),
+}
+
+// The commands in order, up to the first that does not end well. Each stands as a place node and a value node.
+fn execute(
+    t: &[u32],
+    at: usize,
+    total: u32,
+    code: &[u32; 2048],
+    types: &[u32; 512],
+    first: u32,
+    values: &mut [u32],
+    bases: &mut [u32],
+    ends: &mut [u32],
+) -> Answer
+    requires { ⌜ Executable (now t) (now code) (now types) at total first (now values) (now bases) (now ends) ⌝ }
+    ensures { λ r. ⌜ Executed (now (t .entry)) (state-of (lists (now (values .entry)) (now (bases .entry)) (now (ends .entry))) first []) r (now (values .exit)) (now (bases .exit)) (now (ends .exit)) ⌝ }
+{
+    let mut unused = first;
+    let mut c = 0;
+    while c < total {
+        let k = at + 2 * index(c);
+        let p = index(t[k]);
+        let r = command(
+            code,
+            values,
+            bases,
+            ends,
+            p,
+            index(t[k + 1]),
+            types[p],
+            &mut unused,
+        );
+        if r == ENDED {
+            return Answer::Abort(c, unused);
+        }
+        if ENDED < r {
+            return Answer::NoRoom(c, unused);
+        }
+        c += 1;
+    }
+    Answer::Done(unused)
+}
+
+// Sets every word of a list to 0.
+fn clear(list: &mut [u32])
+    ensures { λ r. ⌜ now (list .exit) ≡ replicate (length (now (list .entry))) 0 ⌝ }
+{
+    let n = list.len();
+    for i in 0..n {
+        list[i] = 0;
+    }
+}
+
+// Sets the variables' values: word 1 + i to input i.
+fn set_inputs(values: &mut [u32], inputs: &[u32])
+    requires { ⌜ length (now inputs) < length (now values) ⌝ }
+    ensures { λ r. ⌜ now (values .exit) ≡ sets (now (values .entry)) 1 (now (inputs .entry)) ⌝ }
+{
+    let n = inputs.len();
+    for i in 0..n {
+        values[i + 1] = inputs[i];
+    }
 }

@@ -1,5 +1,5 @@
 -- What a passed check tells.
-use Prim.Native.Nat.{ℕ, zero, suc, _+_, _-_, _≤_, _<_}
+use Prim.Native.Nat.{ℕ, zero, suc, _+_, _*_, _-_, _≤_, _<_}
 use mathlib.Core.Bool.{Bool, true, false, _&&_}
 use mathlib.Core.Path.{_≡_, refl}
 use mathlib.Core.Logic.{⊎-elim}
@@ -10,7 +10,7 @@ use borrow.Author.Tests.{ltb-true, leb-true, eqb-true, lt-ltb}
 use lib.Dec.{leb, ltb, eqb}
 use lib.ListN.{length}
 use Rattle.semantics.specs.Words.{Words, word, sum-below}
-use Rattle.semantics.specs.Table.{records, fields, pointers, variables, nodes, commands, limits, count-place, count, item, entry-type, known-type, known-target, target, points-to-type, points-to-record, pointed-record, field-total, first-field}
+use Rattle.semantics.specs.Table.{records, fields, pointers, variables, nodes, commands, entry-words, limits, count-place, count, item, entry-type, known-type, known-target, target, points-to-type, points-to-record, pointed-record, field-total, first-field}
 use Rattle.semantics.specs.Check.{Verdict, passes, refused, _or-else_, require, each, section-fault, words-over, record-fault, field-sum-fault, field-fault, pointer-fault, variable-fault, node-fault, command-fault, use-fault, check}
 use Rattle.semantics.proofs.Tests.{and-true, or-true}
 use Rattle.semantics.proofs.Lists.{sum-below-≤}
@@ -90,6 +90,11 @@ section-ok t s e =
       limited = leb-true _ _ (require-passes (leb (count t s) (word limits s)) _ _ (p1 .0));
       extent = leb-true _ _ (require-passes (leb (count-place t (suc s)) (length t)) _ _ (p1 .1));
     }
+
+-- Where a section ends, which is where the next one's count stands.
+pub section-end : (t : Words) (s : ℕ) → count-place t (suc s) ≡ count-place t s + 1 + word entry-words s * count t s
+unfolding count-place count
+section-end t s = refl
 
 -- ---- types
 

@@ -56,7 +56,7 @@ sets-other l i [] w h = refl
 sets-other l i (x ∷ xs) w h =
     sets-other (set l i x) (suc i) xs w (omega arith) ∙ getD-set-other l i w x 0 (λ e. omega arith)
 
-begin-inv : (t inputs : Words) (len : ℕ) → Begun t inputs len → Inv (count t variables) len (begin t inputs len)
+pub begin-inv : (t inputs : Words) (len : ℕ) → Begun t inputs len → Inv (count t variables) len (begin t inputs len)
 unfolding begin
 begin-inv t inputs len b =
     record {
@@ -78,10 +78,10 @@ begin-inv t inputs len b =
 -- ---- the commands
 
 -- A run from state s₀ that has a rule for each step so far, with the invariant in its state.
-record Running (vars len : ℕ) (s₀ : State) (r : Run) : Type 0 where
-  has-rules : (c : ℕ) → r .ending ≡ stuck c → ⊥
-  inv : Inv vars len (r .state)
-  past : Later s₀ (r .state)
+pub record Running (vars len : ℕ) (s₀ : State) (r : Run) : Type 0 where
+  pub has-rules : (c : ℕ) → r .ending ≡ stuck c → ⊥
+  pub inv : Inv vars len (r .state)
+  pub past : Later s₀ (r .state)
 
 not-stuck-done : (c : ℕ) → done ≡ stuck c → ⊥
 not-stuck-done c e = let z : _≡_ {A = ℕ} 0 1 = cc in omega arith
@@ -93,14 +93,14 @@ after-command-ok c past (good-fails inv l) =
 after-command-ok c past (good-no-room inv l) =
     record { has-rules = λ d e. let z : _≡_ {A = ℕ} 0 1 = cc in omega arith; inv = inv; past = later-trans past l }
 
-commands-ok : {t : Words} {len : ℕ} → Passed t → (s : State) → Inv (count t variables) len s → (c : ℕ) → c ≤ count t commands
+pub commands-ok : {t : Words} {len : ℕ} → Passed t → (s : State) → Inv (count t variables) len s → (c : ℕ) → c ≤ count t commands
     → Running (count t variables) len s (commands-below t c s)
 unfolding commands-below command
 commands-ok table s inv zero h = record { has-rules = not-stuck-done; inv = inv; past = now }
 commands-ok {t} {len} table s inv (suc c) h = go (commands-below t c s .ending) (commands-below t c s .state) (commands-ok table s inv c (omega arith))
   where
     go : (e : Ending) (s′ : State) → Running (count t variables) len s (ended e s′) → Running (count t variables) len s (then-command t c e s′)
-    go done s′ r = after-command-ok c (r .past) (assign-good _ (command-ok table c h .0) (command-ok table c h .1) s′ (r .inv))
+    go done s′ r = after-command-ok c (r .past) (assign-good _ (command-ok table c h .place-tree) (command-ok table c h .value-tree) s′ (r .inv))
     go (abort d) s′ r = r
     go (out-of-memory d) s′ r = r
     go (stuck d) s′ r = r

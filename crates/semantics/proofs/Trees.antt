@@ -154,16 +154,24 @@ trees-ok {t} ok (suc n) h i less = go (ℕ-discrete i n) (trees-ok ok n (omega a
     go (yes e) below = rw e (tree-by-kind-ok ok n h below (node-kind t n) (node-a t n) (node-b t n) (node-ok ok n h))
     go (no e) below = below i (omega arith)
 
--- ---- a command's two trees
+-- ---- a command's two nodes
 
-pub command-ok : {t : Words} → Passed t → (c : ℕ) → c < count t commands
-    → Place-ok (count t variables) (place-of t (command-place t c)) × Value-ok (count t variables) (value-of t (command-value t c))
+pub record Command-ok (t : Words) (c : ℕ) : Type 0 where
+  pub place-node : command-place t c < count t nodes
+  pub value-node : command-value t c < count t nodes
+  pub place-tree : Place-ok (count t variables) (place-of t (command-place t c))
+  pub value-tree : Value-ok (count t variables) (value-of t (command-value t c))
+
+pub command-ok : {t : Words} → Passed t → (c : ℕ) → c < count t commands → Command-ok t c
 unfolding command-fault place-of value-of
 command-ok {t} ok c h =
     let p0 = or-else-passes (require (is-child t place (count t nodes) (command-place t c)) 7 _) _ (ok .command-passes c h) in
     let p1 = or-else-passes (require (is-child t value (count t nodes) (command-value t c)) 7 _) _ (p0 .1) in
-    let l = is-child-true t place (count t nodes) (command-place t c) (require-passes (is-child t place (count t nodes) (command-place t c)) 7 _ (p0 .0)) in
-    let r = is-child-true t value (count t nodes) (command-value t c) (require-passes (is-child t value (count t nodes) (command-value t c)) 7 _ (p1 .0)) in (
-      as-place-ok {tr = tree-of t (command-place t c)} (rw (l .1) (trees-ok ok (count t nodes) (omega arith) (command-place t c) (l .0))),
-      as-value-ok {tr = tree-of t (command-value t c)} (rw (r .1) (trees-ok ok (count t nodes) (omega arith) (command-value t c) (r .0))),
-    )
+    let l = is-child-true t place (count t nodes) (command-place t c) (require-passes _ 7 _ (p0 .0)) in
+    let r = is-child-true t value (count t nodes) (command-value t c) (require-passes _ 7 _ (p1 .0)) in
+    record {
+      place-node = l .0;
+      value-node = r .0;
+      place-tree = as-place-ok {tr = tree-of t (command-place t c)} (rw (l .1) (trees-ok ok (count t nodes) (omega arith) (command-place t c) (l .0)));
+      value-tree = as-value-ok {tr = tree-of t (command-value t c)} (rw (r .1) (trees-ok ok (count t nodes) (omega arith) (command-value t c) (r .0)));
+    }
