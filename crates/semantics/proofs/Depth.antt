@@ -9,7 +9,7 @@ use borrow.Author.Tests.{ltb-true, eqb-false}
 use lib.Dec.{ltb, eqb}
 use Rattle.semantics.specs.Words.{Words}
 use Rattle.semantics.specs.Table.{nodes, count, Operand, unused, variable-number, field-number, any-word, type-word, target-word, place-child, value-child, operand-a, operand-b, node-kind, node-a, node-b, children}
-use Rattle.semantics.specs.Check.{Verdict, passes, refused, _or-else_, require, each, section-fault, words-over, record-fault, field-sum-fault, field-fault, pointer-fault, variable-fault, operand-fault, any-of, deeper, node-fault, command-fault, use-fault, check, call-fault}
+use Rattle.semantics.specs.Check.{Verdict, passes, refused, _or-else_, require, each, section-fault, words-over, record-fault, field-sum-fault, field-fault, pointer-fault, variable-fault, operand-fault, any-of, deeper, node-fault, command-fault, use-fault, check, input-fault, arguments-fault, call-fault}
 use Rattle.semantics.proofs.Tests.{and-true, or-true}
 use Rattle.semantics.proofs.Passed.{each-passes, section-ok}
 
@@ -125,7 +125,7 @@ pub check-never-12 : (t : Words) (p : ℕ) → check t ≡ refused 12 p → ⊥
 check-never-12 t = check-never t .never
 
 pub call-never-12 : (t inputs : Words) (values bases ends p : ℕ) → call-fault t inputs values bases ends ≡ refused 12 p → ⊥
-unfolding call-fault
+unfolding call-fault arguments-fault input-fault
 call-never-12 t inputs values bases ends =
     or-else-never (check t) _ (check-never t)
     (λ _. or-else-never _ _ (require-never _ 10 _ refl)

@@ -3,7 +3,7 @@ use mathlib.Core.Path.{_≡_, refl}
 use mathlib.Core.List.{map}
 use Rattle.semantics.specs.Words.{sum-below, least-below, grow}
 use Rattle.semantics.specs.Table.{count-place, count, item-place, item, is-pointer, known-type, known-target, target, points-to-type, points-to-record, pointed-record, entry-below, field-total, first-field, field-type, field-count, field-offset, size-of, kind-of, node-kind, children, type-rule, types-below, node-type}
-use Rattle.semantics.specs.Check.{_or-else_, require, each, section-fault, words-over, record-fault, field-sum-fault, field-fault, pointer-fault, variable-fault, is-child, deeper, node-fault, command-fault, uses, use-fault, check, lengths-fit, input-fits, call-fault}
+use Rattle.semantics.specs.Check.{_or-else_, require, each, section-fault, words-over, record-fault, field-sum-fault, field-fault, pointer-fault, variable-fault, is-child, deeper, node-fault, command-fault, uses, use-fault, check, lengths-fit, input-fits, input-fault, arguments-fault, call-fault}
 use Rattle.semantics.specs.Syntax.{tree-rule, trees-below, tree-of, place-of, value-of}
 use Rattle.semantics.specs.Rules.{in-bounds, checked, deref-step, field-step, touchable, read-step, malloc-step, place-at, assign-step, assign}
 use Rattle.semantics.specs.Run.{begin, command, commands-below, run, call}
@@ -11,7 +11,7 @@ use Rattle.semantics.specs.Examples.{Example, observed, refusals, runs}
 
 -- To unfold this is to unfold every definition that a call comes down to.
 computed : Example → Example
-unfolding observed sum-below least-below grow count-place count item-place item is-pointer known-type known-target target points-to-type points-to-record pointed-record entry-below field-total first-field field-type field-count field-offset size-of kind-of node-kind children type-rule types-below node-type _or-else_ require each section-fault words-over record-fault field-sum-fault field-fault pointer-fault variable-fault is-child deeper node-fault command-fault uses use-fault check lengths-fit input-fits call-fault tree-rule trees-below tree-of place-of value-of in-bounds checked deref-step field-step touchable read-step malloc-step place-at assign-step assign begin command commands-below run call
+unfolding observed sum-below least-below grow count-place count item-place item is-pointer known-type known-target target points-to-type points-to-record pointed-record entry-below field-total first-field field-type field-count field-offset size-of kind-of node-kind children type-rule types-below node-type _or-else_ require each section-fault words-over record-fault field-sum-fault field-fault pointer-fault variable-fault is-child deeper node-fault command-fault uses use-fault check lengths-fit input-fits input-fault arguments-fault call-fault tree-rule trees-below tree-of place-of value-of in-bounds checked deref-step field-step touchable read-step malloc-step place-at assign-step assign begin command commands-below run call
 computed x = observed x
 
 pub refusals-are-given : map observed refusals ≡ refusals

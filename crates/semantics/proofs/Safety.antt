@@ -10,7 +10,7 @@ use lib.ListN.{length, set, replicate, length-replicate}
 use lib.Seq.{sets, length-sets, getD-set-other}
 use Rattle.semantics.specs.Words.{Words, word}
 use Rattle.semantics.specs.Table.{variables, commands, count}
-use Rattle.semantics.specs.Check.{passes, require, check, lengths-fit, call-fault}
+use Rattle.semantics.specs.Check.{passes, require, check, lengths-fit, arguments-fault, call-fault}
 use Rattle.semantics.specs.Rules.{State, Outcome}
 use Rattle.semantics.specs.Run.{begin, command, Ending, done, abort, out-of-memory, stuck, Run, ended, after-command, then-command, commands-below, run}
 use Rattle.semantics.specs.Safety.{none, absent, Spatially-safe, Writes-logged}
@@ -30,7 +30,7 @@ pub record Begun (t inputs : Words) (len : ℕ) : Type 0 where
   pub inputs-length : length inputs ≡ count t variables
 
 pub begun : (t inputs : Words) (values bases ends : ℕ) → call-fault t inputs values bases ends ≡ passes → Begun t inputs values
-unfolding call-fault lengths-fit
+unfolding call-fault arguments-fault lengths-fit
 begun t inputs values bases ends e =
     let p0 = or-else-passes (check t) _ e in
     let p1 = or-else-passes (require (lengths-fit t values bases ends) 10 0) _ (p0 .1) in

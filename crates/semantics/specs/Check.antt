@@ -169,10 +169,16 @@ lengths-fit t values bases ends = eqb values bases && eqb values ends && ltb (co
 unfoldable pub input-fits : Words → Words → ℕ → Bool
 input-fits t inputs i = eqb (item t variables i 0) int || eqb (word inputs i) 0
 
--- A call's refusals, from the lengths of the lists of values, bases and ends: the check's, "then 10, then 11".
-unfoldable pub call-fault : Words → Words → ℕ → ℕ → ℕ → Verdict
-call-fault t inputs values bases ends =
-    check t
-    or-else require (lengths-fit t values bases ends) 10 0
+unfoldable pub input-fault : Words → Words → ℕ → Verdict
+input-fault t inputs i = require (input-fits t inputs i) 11 i
+
+-- "then 10, then 11", from the lengths of the lists of values, bases and ends.
+unfoldable pub arguments-fault : Words → Words → ℕ → ℕ → ℕ → Verdict
+arguments-fault t inputs values bases ends =
+    require (lengths-fit t values bases ends) 10 0
     or-else require (eqb (length inputs) (count t variables)) 11 (count t variables)
-    or-else each (count t variables) (λ i. require (input-fits t inputs i) 11 i)
+    or-else each (count t variables) (input-fault t inputs)
+
+-- A call's refusals.
+unfoldable pub call-fault : Words → Words → ℕ → ℕ → ℕ → Verdict
+call-fault t inputs values bases ends = check t or-else arguments-fault t inputs values bases ends
