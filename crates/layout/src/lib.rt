@@ -89,6 +89,7 @@ impl Table {
     pub const COMMANDS: u32 = 256;
 
     pub const FIELD_WORDS: u32 = 4096;
+
     // The target that is record 0.
     pub const RECORD: u32 = 65536;
 
@@ -174,8 +175,9 @@ fn check_records(t: &[u32], records: Section) -> Verdict
     let at = records.at;
     let count = records.count;
     for i in 0..count {
-        if t[at + i] == 0 {
-            return Verdict::Refused(4, at + i);
+        let place = at + i;
+        if t[place] == 0 {
+            return Verdict::Refused(4, place);
         }
     }
     Verdict::Passes
@@ -225,9 +227,10 @@ fn check_fields(t: &[u32], fields: Section, pointers: usize, before: &mut [u32; 
         if !known_type(pointers, t[field]) {
             return Verdict::Refused(5, field);
         }
-        let words = t[field + 1];
+        let words_at = field + 1;
+        let words = t[words_at];
         if words < 1 || Table::FIELD_WORDS < words {
-            return Verdict::Refused(4, field + 1);
+            return Verdict::Refused(4, words_at);
         }
         sum += words;
         before[i + 1] = sum;
@@ -244,14 +247,14 @@ fn check_pointers(t: &[u32], pointers: Section, records: usize, entry: &mut [u32
     let count = pointers.count;
     let mut mark = 2;
     for i in 0..count {
-        let place = at + i;
-        let x = t[place];
+        let pointer = at + i;
+        let x = t[pointer];
         if !known_target(records, count, x) {
-            return Verdict::Refused(5, place);
+            return Verdict::Refused(5, pointer);
         }
         let k = target_slot(x);
         if entry[k] != 0 {
-            return Verdict::Refused(6, place);
+            return Verdict::Refused(6, pointer);
         }
         entry[k] = mark;
         mark += 1;
@@ -267,8 +270,9 @@ fn check_variables(t: &[u32], variables: Section, pointers: usize) -> Verdict
     let at = variables.at;
     let count = variables.count;
     for i in 0..count {
-        if !known_type(pointers, t[at + i]) {
-            return Verdict::Refused(5, at + i);
+        let variable = at + i;
+        if !known_type(pointers, t[variable]) {
+            return Verdict::Refused(5, variable);
         }
     }
     Verdict::Passes
@@ -294,7 +298,8 @@ pub fn check_types(
         return Verdict::Refused(n, p);
     }
     if total_fields(t, records) != fields.count {
-        return Verdict::Refused(4, fields.at - 1);
+        let place = fields.at - 1;
+        return Verdict::Refused(4, place);
     }
     note_first(t, records, first);
     if let Verdict::Refused(n, p) = check_fields(t, fields, pointers.count, before) {

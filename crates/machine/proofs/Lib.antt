@@ -3,3 +3,4 @@ pub mod Commands
 pub mod Lists
 pub mod Execution
 pub mod Arguments
+pub mod Calls

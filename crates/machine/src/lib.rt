@@ -9,16 +9,25 @@ ghost use lib.Seq.{sets};
 ghost use Rattle.evaluator.specs.Result.{state-of};
 ghost use Rattle.semantics.specs.Table.{count};
 ghost use Rattle.semantics.specs.Check.{each, input-fault, arguments-fault};
-ghost use Rattle.layout.specs.Layout.{verdict-of, Stands};
-ghost use Rattle.machine.specs.Run.{Executable, Executed};
+ghost use Rattle.semantics.specs.Run.{call};
+ghost use Rattle.layout.specs.Layout.{layout, verdict-of, Stands};
+ghost use Rattle.machine.specs.Run.{Is, Program, Executable, Executed};
 ghost use Rattle.machine.specs.Command.{lists, Command-ready, Evaluated, Stored, Command-answered};
 use layout::Section;
+use layout::Table;
 use layout::Verdict;
 
 // From 2^32 on, an answer says how evaluation ended.
 const ENDED: u64 = 4294967296;
 
 fn low(x: u64) -> u32
+    requires { ⌜ x < 2 ^ 32 ⌝ }
+    ensures { λ r. ⌜ r ≡ x ⌝ }
+{
+    x as u32
+}
+
+fn narrow(x: usize) -> u32
     requires { ⌜ x < 2 ^ 32 ⌝ }
     ensures { λ r. ⌜ r ≡ x ⌝ }
 {
@@ -246,4 +255,40 @@ fn check_arguments(
         return Verdict::Refused(11, n);
     }
     check_inputs(t, variables, inputs)
+}
+
+// The rest of a call, for a table that passed the check.
+fn run_checked(
+    t: &[u32],
+    l: Table,
+    code: &[u32; 2048],
+    types: &[u32; 512],
+    inputs: &[u32],
+    values: &mut [u32],
+    bases: &mut [u32],
+    ends: &mut [u32],
+) -> Answer
+    requires { ⌜ (Program (now t) (now code) (now types)) × (l ≡ layout (now t)) ⌝ }
+    ensures { λ r. ⌜ Is (call (now (t .entry)) (now (inputs .entry)) (now (values .entry)) (now (bases .entry)) (now (ends .entry))) r (now (values .exit)) (now (bases .exit)) (now (ends .exit)) ⌝ }
+{
+    let variables = l.variables;
+    let commands = l.commands;
+    if let Verdict::Refused(n, p) = check_arguments(
+        t,
+        variables,
+        inputs,
+        values.len(),
+        bases.len(),
+        ends.len(),
+    ) {
+        return Answer::Refused(n, p);
+    }
+    clear(values);
+    clear(bases);
+    clear(ends);
+    set_inputs(values, inputs);
+    let at = commands.at;
+    let total = narrow(commands.count);
+    let unused = narrow(variables.count) + 1;
+    execute(t, at, total, code, types, unused, values, bases, ends)
 }

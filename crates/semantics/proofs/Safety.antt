@@ -29,6 +29,17 @@ pub record Begun (t inputs : Words) (len : ℕ) : Type 0 where
   pub most : len ≤ 65536
   pub inputs-length : length inputs ≡ count t variables
 
+-- The three lists of a call that isn't refused are equally long.
+pub equally-long : (t inputs : Words) (values bases ends : ℕ) → call-fault t inputs values bases ends ≡ passes → (values ≡ bases) × (values ≡ ends)
+unfolding call-fault arguments-fault lengths-fit
+equally-long t inputs values bases ends e =
+    let p0 = or-else-passes (check t) _ e in
+    let p1 = or-else-passes (require (lengths-fit t values bases ends) 10 0) _ (p0 .1) in
+    let l0 = and-true (eqb values bases && eqb values ends && ltb (count t variables) values) (leb values 65536) (require-passes (lengths-fit t values bases ends) 10 0 (p1 .0)) in
+    let l1 = and-true (eqb values bases && eqb values ends) (ltb (count t variables) values) (l0 .0) in
+    let l2 = and-true (eqb values bases) (eqb values ends) (l1 .0) in
+    (eqb-true values bases (l2 .0), eqb-true values ends (l2 .1))
+
 pub begun : (t inputs : Words) (values bases ends : ℕ) → call-fault t inputs values bases ends ≡ passes → Begun t inputs values
 unfolding call-fault arguments-fault lengths-fit
 begun t inputs values bases ends e =

@@ -50,17 +50,14 @@ returns c =
     let k = sym (not-true _ (c .if1 .taken)) ∙ c .before .known-type .ensures _ (c .before .before .before .before .before .before .pre .1) in
     refusal (each-refuses _ _ (c .before .before .before .before .loop .inv .1) _ (omega arith) (field-unknown h _ _ refl k))
 
-add-words : tie.Need-add-words Inv-loop μ-loop
-add-words c = let h = c .before .before .before .before .before .before .pre .0 in omega arith
+add-words-at : tie.Need-add-words-at Inv-loop μ-loop
+add-words-at c = let h = c .before .before .before .before .before .before .pre .0 in omega arith
 
 mul-words : tie.Need-mul-words Inv-loop μ-loop
 mul-words c = let h = c .before .before .before .before .before .before .pre .0 in omega arith
 
 shared-slice-read-words : tie.Need-shared-slice-read-words Inv-loop μ-loop
 shared-slice-read-words c = let h = c .before .before .before .before .before .before .before .pre .0 in omega arith
-
-add-t22 : tie.Need-add-t22 Inv-loop μ-loop
-add-t22 c = let h = c .before .before .before .before .before .before .before .before .pre .0 in omega arith
 
 returns-2 : tie.Need-returns-2 Inv-loop μ-loop
 returns-2 c =
@@ -124,10 +121,9 @@ check-fields-spec =
     shared-slice-read-known-type
     known-type-requires
     returns
-    add-words
+    add-words-at
     mul-words
     shared-slice-read-words
-    add-t22
     returns-2
     add-sum
     add-before

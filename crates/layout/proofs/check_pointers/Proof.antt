@@ -25,8 +25,8 @@ loop-holds : tie.Need-loop-holds Inv-loop μ-loop
 unfolding each
 loop-holds c = (omega arith, refl, refl, ap length (c .before .pre .3) ∙ refl, marks-none _ _ (c .before .pre .3))
 
-add-place : tie.Need-add-place Inv-loop μ-loop
-add-place c = let h = c .before .before .before .pre .0 in omega arith
+add-pointer : tie.Need-add-pointer Inv-loop μ-loop
+add-pointer c = let h = c .before .before .before .pre .0 in omega arith
 
 mul-x : tie.Need-mul-x Inv-loop μ-loop
 mul-x c = let h = c .before .before .before .pre .0 in omega arith
@@ -118,7 +118,7 @@ check-pointers-spec =
     Inv-loop
     μ-loop
     loop-holds
-    add-place
+    add-pointer
     mul-x
     shared-slice-read-x
     known-target-requires

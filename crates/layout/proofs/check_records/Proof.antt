@@ -18,17 +18,14 @@ loop-holds : tie.Need-loop-holds Inv-loop μ-loop
 unfolding each
 loop-holds c = (omega arith, refl)
 
-add-if1 : tie.Need-add-if1 Inv-loop μ-loop
-add-if1 c = let h = c .before .before .pre in omega arith
+add-place : tie.Need-add-place Inv-loop μ-loop
+add-place c = let h = c .before .before .pre in omega arith
 
 mul-if1 : tie.Need-mul-if1 Inv-loop μ-loop
 mul-if1 c = let h = c .before .before .pre in omega arith
 
 shared-slice-read-if1 : tie.Need-shared-slice-read-if1 Inv-loop μ-loop
 shared-slice-read-if1 c = let h = c .before .before .before .pre in omega arith
-
-add-t11 : tie.Need-add-t11 Inv-loop μ-loop
-add-t11 c = let h = c .before .before .before .before .pre in omega arith
 
 returns : tie.Need-returns Inv-loop μ-loop
 returns c = let h = c .before .before .before .before .pre in each-refuses _ _ (c .before .before .before .loop .inv .1) _ (omega arith) (record-empty h _ (c .if1 .taken))
@@ -52,10 +49,9 @@ check-records-spec =
     Inv-loop
     μ-loop
     loop-holds
-    add-if1
+    add-place
     mul-if1
     shared-slice-read-if1
-    add-t11
     returns
     add-i
     loop-less

@@ -30,8 +30,8 @@ records-pass c = ap verdict-of (sym (c .enum-told .given .1)) ∙ c .before .bef
 total-fields-requires : tie.Need-total-fields-requires
 total-fields-requires c κs = c .before .before .before .before .before .before .before .before .pre .0 .records-stand
 
-sub-t19 : tie.Need-sub-t19
-sub-t19 c = let h = c .before .before .before .before .before .before .before .before .before .before .before .before .pre .0 .fields-stand in omega arith
+sub-place : tie.Need-sub-place
+sub-place c = let h = c .before .before .before .before .before .before .before .before .before .before .before .before .pre .0 .fields-stand in omega arith
 
 returns-2 : tie.Need-returns-2
 returns-2 c =
@@ -113,7 +113,7 @@ check-types-spec =
     returns
     enum-told
     total-fields-requires
-    sub-t19
+    sub-place
     returns-2
     note-first-requires
     check-fields-requires

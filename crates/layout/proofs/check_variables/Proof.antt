@@ -19,8 +19,8 @@ loop-holds : tie.Need-loop-holds Inv-loop μ-loop
 unfolding each
 loop-holds c = (omega arith, refl)
 
-add-known-type : tie.Need-add-known-type Inv-loop μ-loop
-add-known-type c = let h = c .before .before .before .pre .0 in omega arith
+add-variable : tie.Need-add-variable Inv-loop μ-loop
+add-variable c = let h = c .before .before .before .pre .0 in omega arith
 
 mul-known-type : tie.Need-mul-known-type Inv-loop μ-loop
 mul-known-type c = let h = c .before .before .before .pre .0 in omega arith
@@ -30,9 +30,6 @@ shared-slice-read-known-type c = let h = c .before .before .before .before .pre 
 
 known-type-requires : tie.Need-known-type-requires Inv-loop μ-loop
 known-type-requires c κs = c .before .before .before .before .pre .2
-
-add-t13 : tie.Need-add-t13 Inv-loop μ-loop
-add-t13 c = let h = c .before .before .before .before .before .before .pre .0 in omega arith
 
 returns : tie.Need-returns Inv-loop μ-loop
 returns c = let h = c .before .before .before .before .before .before .pre .0 in each-refuses _ _ (c .before .before .before .before .loop .inv .1) _ (omega arith) (variable-unknown h _ (sym (not-true _ (c .if1 .taken)) ∙ c .before .known-type .ensures _ (c .before .before .before .before .before .before .pre .1)))
@@ -56,11 +53,10 @@ check-variables-spec =
     Inv-loop
     μ-loop
     loop-holds
-    add-known-type
+    add-variable
     mul-known-type
     shared-slice-read-known-type
     known-type-requires
-    add-t13
     returns
     add-i
     loop-less
