@@ -141,6 +141,15 @@ place-child {vars} c n x h = go (decLt x n)
 
 -- ---- nodes by kind: the tree, and the children
 
+-- A tree that is F of its child: where it makes sense, so does the child.
+with-value : {vars : ℕ} {B : Type 0} (Ok : B → Type 0) (F : Value → B) (c : Words) (n x : ℕ) {b : B} → b ≡ F (as-value (getD (code-trees c n) x senseless))
+    → ((v : Value) → Ok (F v) → Value-ok vars v) → Ok b → Value-child vars c n x × (b ≡ F (code-value c x))
+with-value Ok F c n x e inner h = let ch = value-child c n x (inner _ (rw e at h)) in (ch, e ∙ ap F (ch .same))
+
+with-place : {vars : ℕ} {B : Type 0} (Ok : B → Type 0) (F : Place → B) (c : Words) (n x : ℕ) {b : B} → b ≡ F (as-place (getD (code-trees c n) x senseless))
+    → ((p : Place) → Ok (F p) → Place-ok vars p) → Ok b → Place-child vars c n x × (b ≡ F (code-place c x))
+with-place Ok F c n x e inner h = let ch = place-child c n x (inner _ (rw e at h)) in (ch, e ∙ ap F (ch .same))
+
 number-node : (c : Words) (n : ℕ) → (part c n 0 ≡ 4) ⊎ (part c n 0 ≡ 9) → code-value c n ≡ Number n (part c n 1)
 unfolding code-value code-tree code-rule kind-of
 number-node c n (inl k) = rw k
@@ -149,33 +158,25 @@ number-node c n (inr k) = rw k
 module _ {vars : ℕ} (c : Words) (n : ℕ) where
   variable-node : part c n 0 ≡ 1 → Place-ok vars (code-place c n) → (part c n 1 < vars) × (code-place c n ≡ Variable n (part c n 1))
   unfolding code-place code-tree code-rule kind-of
-  variable-node k h =
-      let e : code-place c n ≡ Variable n (part c n 1) = rw k in
-      (number (rw e at h), e)
+  variable-node k h = let e : code-place c n ≡ Variable n (part c n 1) = rw k in (number (rw e at h), e)
     where
       number : {i : ℕ} → Place-ok vars (Variable n i) → i < vars
       number (variable-ok l) = l
 
   deref-node : part c n 0 ≡ 2 → Place-ok vars (code-place c n) → Value-child vars c n (part c n 1) × (code-place c n ≡ Deref n (code-value c (part c n 1)))
   unfolding code-place code-tree code-rule kind-of
-  deref-node k h =
-      let e : code-place c n ≡ Deref n (as-value (getD (code-trees c n) (part c n 1) senseless)) = rw k in
-      let ch = value-child c n (part c n 1) (inner (rw e at h)) in
-      (ch, e ∙ ap (Deref n) (ch .same))
+  deref-node k h = with-value (Place-ok vars) (Deref n) c n (part c n 1) (rw k) inner h
     where
-      inner : {v : Value} → Place-ok vars (Deref n v) → Value-ok vars v
-      inner (deref-ok v) = v
+      inner : (v : Value) → Place-ok vars (Deref n v) → Value-ok vars v
+      inner v (deref-ok ok) = ok
 
   field-node : part c n 0 ≡ 3 → Place-ok vars (code-place c n)
       → Value-child vars c n (part c n 1) × (code-place c n ≡ Field n (part c n 2) (part c n 3) (code-value c (part c n 1)))
   unfolding code-place code-tree code-rule kind-of
-  field-node k h =
-      let e : code-place c n ≡ Field n (part c n 2) (part c n 3) (as-value (getD (code-trees c n) (part c n 1) senseless)) = rw k in
-      let ch = value-child c n (part c n 1) (inner (rw e at h)) in
-      (ch, e ∙ ap (Field n (part c n 2) (part c n 3)) (ch .same))
+  field-node k h = with-value (Place-ok vars) (Field n (part c n 2) (part c n 3)) c n (part c n 1) (rw k) inner h
     where
-      inner : {o k : ℕ} {v : Value} → Place-ok vars (Field n o k v) → Value-ok vars v
-      inner (field-ok some v) = v
+      inner : (v : Value) → Place-ok vars (Field n (part c n 2) (part c n 3) v) → Value-ok vars v
+      inner v (field-ok some ok) = ok
 
   sum-node : part c n 0 ≡ 5 → Value-ok vars (code-value c n)
       → Value-child vars c n (part c n 1) × Value-child vars c n (part c n 2) × (code-value c n ≡ Sum n 1 (code-value c (part c n 1)) (code-value c (part c n 2)))
@@ -195,44 +196,32 @@ module _ {vars : ℕ} (c : Words) (n : ℕ) where
   read-node : part c n 0 ≡ 6 → Value-ok vars (code-value c n)
       → Place-child vars c n (part c n 1) × (code-value c n ≡ Read n (is-pointer (part c n 2)) (code-place c (part c n 1)))
   unfolding code-value code-tree code-rule kind-of
-  read-node k h =
-      let e : code-value c n ≡ Read n (is-pointer (part c n 2)) (as-place (getD (code-trees c n) (part c n 1) senseless)) = rw k in
-      let ch = place-child c n (part c n 1) (inner (rw e at h)) in
-      (ch, e ∙ ap (Read n (is-pointer (part c n 2))) (ch .same))
+  read-node k h = with-place (Value-ok vars) (Read n (is-pointer (part c n 2))) c n (part c n 1) (rw k) inner h
     where
-      inner : {b : Bool} {p : Place} → Value-ok vars (Read n b p) → Place-ok vars p
-      inner (read-ok p) = p
+      inner : (p : Place) → Value-ok vars (Read n (is-pointer (part c n 2)) p) → Place-ok vars p
+      inner p (read-ok ok) = ok
 
   address-node : part c n 0 ≡ 7 → Value-ok vars (code-value c n) → Place-child vars c n (part c n 1) × (code-value c n ≡ Address n (code-place c (part c n 1)))
   unfolding code-value code-tree code-rule kind-of
-  address-node k h =
-      let e : code-value c n ≡ Address n (as-place (getD (code-trees c n) (part c n 1) senseless)) = rw k in
-      let ch = place-child c n (part c n 1) (inner (rw e at h)) in
-      (ch, e ∙ ap (Address n) (ch .same))
+  address-node k h = with-place (Value-ok vars) (Address n) c n (part c n 1) (rw k) inner h
     where
-      inner : {p : Place} → Value-ok vars (Address n p) → Place-ok vars p
-      inner (address-ok p) = p
+      inner : (p : Place) → Value-ok vars (Address n p) → Place-ok vars p
+      inner p (address-ok ok) = ok
 
   cast-node : part c n 0 ≡ 8 → Value-ok vars (code-value c n)
       → Value-child vars c n (part c n 1) × (code-value c n ≡ Cast n (is-pointer (part c n 2)) (code-value c (part c n 1)))
   unfolding code-value code-tree code-rule kind-of
-  cast-node k h =
-      let e : code-value c n ≡ Cast n (is-pointer (part c n 2)) (as-value (getD (code-trees c n) (part c n 1) senseless)) = rw k in
-      let ch = value-child c n (part c n 1) (inner (rw e at h)) in
-      (ch, e ∙ ap (Cast n (is-pointer (part c n 2))) (ch .same))
+  cast-node k h = with-value (Value-ok vars) (Cast n (is-pointer (part c n 2))) c n (part c n 1) (rw k) inner h
     where
-      inner : {b : Bool} {v : Value} → Value-ok vars (Cast n b v) → Value-ok vars v
-      inner (cast-ok v) = v
+      inner : (v : Value) → Value-ok vars (Cast n (is-pointer (part c n 2)) v) → Value-ok vars v
+      inner v (cast-ok ok) = ok
 
   malloc-node : part c n 0 ≡ 10 → Value-ok vars (code-value c n) → Value-child vars c n (part c n 1) × (code-value c n ≡ Malloc n (code-value c (part c n 1)))
   unfolding code-value code-tree code-rule kind-of
-  malloc-node k h =
-      let e : code-value c n ≡ Malloc n (as-value (getD (code-trees c n) (part c n 1) senseless)) = rw k in
-      let ch = value-child c n (part c n 1) (inner (rw e at h)) in
-      (ch, e ∙ ap (Malloc n) (ch .same))
+  malloc-node k h = with-value (Value-ok vars) (Malloc n) c n (part c n 1) (rw k) inner h
     where
-      inner : {v : Value} → Value-ok vars (Malloc n v) → Value-ok vars v
-      inner (malloc-ok v) = v
+      inner : (v : Value) → Value-ok vars (Malloc n v) → Value-ok vars v
+      inner v (malloc-ok ok) = ok
 
 -- ---- what a recursive call requires: a child of a node that is ready is ready, and smaller
 

@@ -136,15 +136,19 @@ module _ {t code types vs₀ bs₀ es₀ : Words} {at total u₀ : ℕ} (x : Exe
           go (answers-failed y log i) runs = absurd (omega arith)
           go (answers-full log i) runs = absurd (omega arith)
 
+      -- The run has ended at this command.
+      ended-here : (e : Ending) (a : Answer) (log : List Event) → (e ≡ done → ⊥) → answer-of a ≡ ending e u′
+          → commands-below t (suc c) (state-of (lists vs₀ bs₀ es₀) u₀ []) ≡ ended e (state-of (lists vs′ bs′ es′) u′ log)
+          → Executed t (state-of (lists vs₀ bs₀ es₀) u₀ []) a vs′ bs′ es′
+      ended-here e a log other h runs = executed e log a h (ended-stays t _ (suc c) (count t commands) e _ runs other (omega (arith, x .all)))
+
       pub command-aborts : r ≡ failed → Executed t (state-of (lists vs₀ bs₀ es₀) u₀ []) (Abort c u′) vs′ bs′ es′
       command-aborts h = go outcome (this-command hp hv hk)
         where
           go : {o : Outcome (Unit {0})} → Answers (λ y. 0) (λ y. 0) (λ y. 0) (lists vs′ bs′ es′) r 0 0 u′ o
               → commands-below t (suc c) (state-of (lists vs₀ bs₀ es₀) u₀ []) ≡ after-command c o → Executed t (state-of (lists vs₀ bs₀ es₀) u₀ []) (Abort c u′) vs′ bs′ es′
           go (answers-ok y log i j l small) runs = absurd (omega arith)
-          go (answers-failed y log i) runs =
-              executed (abort c) log (Abort c u′) refl
-              (ended-stays t _ (suc c) (count t commands) (abort c) _ runs (λ q. let z : _≡_ {A = ℕ} 0 1 = cc in omega arith) (omega (arith, x .all)))
+          go (answers-failed y log i) runs = ended-here (abort c) (Abort c u′) log (λ q. let z : _≡_ {A = ℕ} 0 1 = cc in omega arith) refl runs
           go (answers-full log i) runs = absurd (omega arith)
 
       pub command-full : failed < r → Executed t (state-of (lists vs₀ bs₀ es₀) u₀ []) (NoRoom c u′) vs′ bs′ es′
@@ -154,6 +158,4 @@ module _ {t code types vs₀ bs₀ es₀ : Words} {at total u₀ : ℕ} (x : Exe
               → commands-below t (suc c) (state-of (lists vs₀ bs₀ es₀) u₀ []) ≡ after-command c o → Executed t (state-of (lists vs₀ bs₀ es₀) u₀ []) (NoRoom c u′) vs′ bs′ es′
           go (answers-ok y log i j l small) runs = absurd (omega arith)
           go (answers-failed y log i) runs = absurd (omega arith)
-          go (answers-full log i) runs =
-              executed (out-of-memory c) log (NoRoom c u′) refl
-              (ended-stays t _ (suc c) (count t commands) (out-of-memory c) _ runs (λ q. let z : _≡_ {A = ℕ} 0 1 = cc in omega arith) (omega (arith, x .all)))
+          go (answers-full log i) runs = ended-here (out-of-memory c) (NoRoom c u′) log (λ q. let z : _≡_ {A = ℕ} 0 1 = cc in omega arith) refl runs
