@@ -22,7 +22,7 @@ use Rattle.machine.specs.declared.Answer.the-variants.{Refused}
 
 stands : {t : Words} → Passed t → (s : ℕ) → s < 6 → Stands t s (section-of t s)
 stands {t} ok s h =
-    let k = section-ok t s (ok .sections s h) in
+    let k = section-ok t s (ok .types .sections s h) in
     record { first = refl; total = refl; limited = k .limited; extent = omega (arith, k .extent, section-end t s) }
 
 module _ {t code types : Words} {l : Table} (pr : Program t code types) (el : l ≡ layout t) where

@@ -65,7 +65,7 @@ module _ {t code types vs₀ bs₀ es₀ : Words} {at total u₀ : ℕ} (x : Exe
   ok = passed t (x .program .passed)
 
   few-nodes : count t nodes ≤ 512
-  few-nodes = section-ok t 4 (ok .sections 4 (omega arith)) .limited
+  few-nodes = section-ok t 4 (ok .types .sections 4 (omega arith)) .limited
 
   -- Where the two words of command c stand.
   pub command-words : (c : ℕ) → c < total → (command-place t c ≡ word t (at + 2 * c)) × (command-value t c ≡ word t (at + 2 * c + 1)) × (at + 2 * c + 1 < length t)
@@ -73,7 +73,7 @@ module _ {t code types vs₀ bs₀ es₀ : Words} {at total u₀ : ℕ} (x : Exe
   command-words c h =
       let e : count-place t 5 + 1 + 2 * c + 0 ≡ at + 2 * c = omega (arith, x .first) in
       let f : count-place t 5 + 1 + 2 * c + 1 ≡ at + 2 * c + 1 = omega (arith, x .first) in
-      (ap (word t) e, ap (word t) f, omega (arith, section-ok t 5 (ok .sections 5 (omega arith)) .extent, section-end t 5, x .first, x .all))
+      (ap (word t) e, ap (word t) f, omega (arith, section-ok t 5 (ok .types .sections 5 (omega arith)) .extent, section-end t 5, x .first, x .all))
 
   pub place-small : (c : ℕ) → c < total → {p : ℕ} → p ≡ word t (at + 2 * c) → p < 512
   place-small c h e = omega (arith, command-ok ok c (omega (arith, x .all)) .place-node, few-nodes, command-words c h .0)

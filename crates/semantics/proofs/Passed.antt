@@ -34,8 +34,8 @@ each-passes (suc n) f e i h = go (ℕ-discrete i n) (or-else-passes (each n f) (
     go (yes q) both below = rw q (both .1)
     go (no q) both below = below (both .0) (omega arith)
 
--- The parts of the check, in its order.
-pub record Passed (t : Words) : Type 0 where
+-- The parts of the check before the nodes, in its order.
+pub record Types-passed (t : Words) : Type 0 where
   pub sections : (s : ℕ) → s < 6 → section-fault t s ≡ passes
   pub exact : words-over t ≡ passes
   pub record-passes : (r : ℕ) → r < count t records → record-fault t r ≡ passes
@@ -43,6 +43,10 @@ pub record Passed (t : Words) : Type 0 where
   pub field-passes : (f : ℕ) → f < count t fields → field-fault t f ≡ passes
   pub pointer-passes : (i : ℕ) → i < count t pointers → pointer-fault t i ≡ passes
   pub variable-passes : (i : ℕ) → i < count t variables → variable-fault t i ≡ passes
+
+-- All parts of the check.
+pub record Passed (t : Words) : Type 0 where
+  pub types : Types-passed t
   pub node-passes : (n : ℕ) → n < count t nodes → node-fault t n ≡ passes
   pub command-passes : (c : ℕ) → c < count t commands → command-fault t c ≡ passes
   pub use-passes : (n : ℕ) → n < count t nodes → use-fault t n ≡ passes
@@ -60,13 +64,15 @@ passed t e =
     let p7 = or-else-passes (each (count t nodes) (node-fault t)) _ (p6 .1) in
     let p8 = or-else-passes (each (count t commands) (command-fault t)) _ (p7 .1) in
     record {
-      sections = each-passes 6 (section-fault t) (p0 .0);
-      exact = p1 .0;
-      record-passes = each-passes (count t records) (record-fault t) (p2 .0);
-      field-sum = p3 .0;
-      field-passes = each-passes (count t fields) (field-fault t) (p4 .0);
-      pointer-passes = each-passes (count t pointers) (pointer-fault t) (p5 .0);
-      variable-passes = each-passes (count t variables) (variable-fault t) (p6 .0);
+      types = record {
+        sections = each-passes 6 (section-fault t) (p0 .0);
+        exact = p1 .0;
+        record-passes = each-passes (count t records) (record-fault t) (p2 .0);
+        field-sum = p3 .0;
+        field-passes = each-passes (count t fields) (field-fault t) (p4 .0);
+        pointer-passes = each-passes (count t pointers) (pointer-fault t) (p5 .0);
+        variable-passes = each-passes (count t variables) (variable-fault t) (p6 .0);
+      };
       node-passes = each-passes (count t nodes) (node-fault t) (p7 .0);
       command-passes = each-passes (count t commands) (command-fault t) (p8 .0);
       use-passes = each-passes (count t nodes) (use-fault t) (p8 .1);
@@ -106,7 +112,7 @@ pub entry-known : (t : Words) (i : ℕ) → i < count t pointers → known-type 
 unfolding known-type
 entry-known t i h = lt-ltb (entry-type i) (entry-type (count t pointers)) (omega arith)
 
-pub variable-known : {t : Words} → Passed t → (i : ℕ) → i < count t variables → known-type t (item t variables i 0) ≡ true
+pub variable-known : {t : Words} → Types-passed t → (i : ℕ) → i < count t variables → known-type t (item t variables i 0) ≡ true
 unfolding variable-fault
 variable-known {t} ok i h = require-passes (known-type t (item t variables i 0)) _ _ (ok .variable-passes i h)
 
@@ -115,7 +121,7 @@ pub record Field-ok (t : Words) (f : ℕ) : Type 0 where
   pub some : 0 < item t fields f 1
   pub most : item t fields f 1 ≤ 4096
 
-pub field-ok : {t : Words} → Passed t → (f : ℕ) → f < count t fields → Field-ok t f
+pub field-ok : {t : Words} → Types-passed t → (f : ℕ) → f < count t fields → Field-ok t f
 unfolding field-fault
 field-ok {t} ok f h =
     let p = or-else-passes (require (known-type t (item t fields f 0)) 5 _) _ (ok .field-passes f h) in
@@ -123,13 +129,13 @@ field-ok {t} ok f h =
     record { known = require-passes (known-type t (item t fields f 0)) _ _ (p .0); some = ltb-true _ _ (q .0); most = leb-true _ _ (q .1) }
 
 -- A known type that is an entry has a known target.
-target-known : {t : Words} → Passed t → (ty : ℕ) → known-type t ty ≡ true → 2 ≤ ty → known-target t (target t ty) ≡ true
+pub target-known : {t : Words} → Types-passed t → (ty : ℕ) → known-type t ty ≡ true → 2 ≤ ty → known-target t (target t ty) ≡ true
 unfolding pointer-fault known-type target
 target-known {t} ok ty known entry =
     let h : ty - 2 < count t pointers = omega (arith, ltb-true ty (entry-type (count t pointers)) known) in
     require-passes (known-target t (item t pointers (ty - 2) 0)) _ _ (or-else-passes (require (known-target t (item t pointers (ty - 2) 0)) 5 _) _ (ok .pointer-passes (ty - 2) h) .0)
 
-pub deref-known : {t : Words} → Passed t → (ty : ℕ) → known-type t ty ≡ true → points-to-type t ty ≡ true → known-type t (target t ty) ≡ true
+pub deref-known : {t : Words} → Types-passed t → (ty : ℕ) → known-type t ty ≡ true → points-to-type t ty ≡ true → known-type t (target t ty) ≡ true
 unfolding points-to-type known-target
 deref-known {t} ok ty known points =
     let p = and-true (leb 2 ty) (ltb (target t ty) 65536) points in
@@ -138,7 +144,7 @@ deref-known {t} ok ty known points =
     (or-true (known-type t (target t ty)) _ (target-known ok ty known (leb-true 2 ty (p .0))))
 
 -- A known pointer to a record points to one of the table's.
-pub record-known : {t : Words} → Passed t → (ty : ℕ) → known-type t ty ≡ true → points-to-record t ty ≡ true → pointed-record t ty < count t records
+pub record-known : {t : Words} → Types-passed t → (ty : ℕ) → known-type t ty ≡ true → points-to-record t ty ≡ true → pointed-record t ty < count t records
 unfolding points-to-record known-target known-type pointed-record
 record-known {t} ok ty known points =
     let p = and-true (leb 2 ty) (leb 65536 (target t ty)) points in
@@ -149,7 +155,7 @@ record-known {t} ok ty known points =
     (or-true (ltb (target t ty) (entry-type (count t pointers))) _ (target-known ok ty known (leb-true 2 ty (p .0))))
 
 -- A record's field is one of the table's.
-pub field-in : {t : Words} → Passed t → (r f : ℕ) → r < count t records → f < field-total t r → first-field t r + f < count t fields
+pub field-in : {t : Words} → Types-passed t → (r f : ℕ) → r < count t records → f < field-total t r → first-field t r + f < count t fields
 unfolding field-sum-fault first-field sum-below
 field-in {t} ok r f hr hf =
     let e = eqb-true (first-field t (count t records)) (count t fields) (require-passes (eqb (first-field t (count t records)) (count t fields)) _ _ (ok .field-sum)) in

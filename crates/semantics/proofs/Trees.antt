@@ -15,7 +15,7 @@ use Rattle.semantics.specs.Syntax.{Place, Value, Tree, senseless, as-pla
 use Rattle.semantics.specs.Syntax as Syntax
 use Rattle.semantics.proofs.Tests.{and-true}
 use Rattle.semantics.proofs.Lists.{getD-grow}
-use Rattle.semantics.proofs.Passed.{or-else-passes, require-passes, Passed, int-known, entry-known, variable-known, field-ok, deref-known, record-known, field-in}
+use Rattle.semantics.proofs.Passed.{or-else-passes, require-passes, Types-passed, Passed, int-known, entry-known, variable-known, field-ok, deref-known, record-known, field-in}
 use Rattle.semantics.proofs.Steps.{Place-ok, variable-ok, deref-ok, field-ok as field-place-ok, Value-ok, number-ok, sum-ok, read-ok, address-ok, cast-ok, malloc-ok}
 
 -- ---- one node
@@ -27,10 +27,10 @@ pub record Node-ok (t : Words) (n : ℕ) (k : Kind) (a b : ℕ) : Type 0 where
   pub b-ok : operand-fault t n (operand-b k) b (item-place t nodes n 2) ≡ passes
   pub fit : types-fit t k a b ≡ true
 
-pub node-ok : {t : Words} → Passed t → (n : ℕ) → n < count t nodes → Node-ok t n (node-kind t n) (node-a t n) (node-b t n)
+pub node-ok : (t : Words) (n : ℕ) → node-fault t n ≡ passes → Node-ok t n (node-kind t n) (node-a t n) (node-b t n)
 unfolding node-fault
-node-ok {t} ok n h =
-    let p0 = or-else-passes (require (not (same-sort neither (sort-of (node-kind t n)))) 7 (item-place t nodes n 0)) _ (ok .node-passes n h) in
+node-ok t n h =
+    let p0 = or-else-passes (require (not (same-sort neither (sort-of (node-kind t n)))) 7 (item-place t nodes n 0)) _ h in
     let p1 = or-else-passes (operand-fault t n (operand-a (node-kind t n)) (node-a t n) (item-place t nodes n 1)) _ (p0 .1) in
     let p2 = or-else-passes (operand-fault t n (operand-b (node-kind t n)) (node-b t n) (item-place t nodes n 2)) _ (p1 .1) in
     let p3 = or-else-passes (require (types-fit t (node-kind t n) (node-a t n) (node-b t n)) 8 (item-place t nodes n 0)) _ (p2 .1) in
@@ -64,7 +64,7 @@ pub types-at : (t : Words) (n i : ℕ) → i < n → word (types-below t n) i �
 unfolding types-below node-type
 types-at t n i h = getD-grow (type-rule t) 0 n i h
 
-module _ {t : Words} (ok : Passed t) (n : ℕ) (below : (i : ℕ) → i < n → known-type t (node-type t i) ≡ true) where
+module _ {t : Words} (ok : Types-passed t) (n : ℕ) (below : (i : ℕ) → i < n → known-type t (node-type t i) ≡ true) where
   child-known : (s : Sort) (x p : ℕ) → require (is-child t s n x) 7 p ≡ passes → known-type t (node-type t x) ≡ true
   child-known s x p e = below x (is-child-true t s n x (require-passes (is-child t s n x) 7 p e) .0)
 
@@ -88,13 +88,14 @@ module _ {t : Words} (ok : Passed t) (n : ℕ) (below : (i : ℕ) → i < n → 
   known-by-kind malloc a b g = int-known t 1 (omega arith)
   known-by-kind unknown a b g = int-known t 0 (omega arith)
 
-pub types-known : {t : Words} → Passed t → (n : ℕ) → n ≤ count t nodes → (i : ℕ) → i < n → known-type t (node-type t i) ≡ true
+-- The nodes below n pass, and so their types are known.
+pub types-known : {t : Words} → Types-passed t → (n : ℕ) → ((i : ℕ) → i < n → node-fault t i ≡ passes) → (i : ℕ) → i < n → known-type t (node-type t i) ≡ true
 unfolding node-type type-rule
-types-known ok zero h i less = absurd (not-suc-le-zero less)
-types-known {t} ok (suc n) h i less = go (ℕ-discrete i n) (types-known ok n (omega arith))
+types-known ok zero pass i less = absurd (not-suc-le-zero less)
+types-known {t} ok (suc n) pass i less = go (ℕ-discrete i n) (types-known ok n (λ j l. pass j (omega arith)))
   where
     go : Dec (i ≡ n) → ((j : ℕ) → j < n → known-type t (node-type t j) ≡ true) → known-type t (node-type t i) ≡ true
-    go (yes e) below = rw e (known-by-kind ok n below (node-kind t n) (node-a t n) (node-b t n) (node-ok ok n h))
+    go (yes e) below = rw e (known-by-kind ok n below (node-kind t n) (node-a t n) (node-b t n) (node-ok t n (pass n (omega arith))))
     go (no e) below = below i (omega arith)
 
 -- ---- trees
@@ -134,8 +135,8 @@ module _ {t : Words} (ok : Passed t) (n : ℕ) (inside : n < count t nodes)
   tree-by-kind-ok field a b g =
       let c = is-child-true t value n a (require-passes (is-child t value n a) 7 _ (g .a-ok)) in
       let f = and-true (points-to-record t (node-type t a)) _ (g .fit) in
-      let r = record-known ok (node-type t a) (types-known ok n (omega arith) a (c .0)) (f .0) in
-      place-tree (field-place-ok (field-ok ok _ (field-in ok _ b r (ltb-true b _ (f .1))) .some) (child-value a _ (g .a-ok)))
+      let r = record-known (ok .types) (node-type t a) (types-known (ok .types) n (λ i less. ok .node-passes i (omega arith)) a (c .0)) (f .0) in
+      place-tree (field-place-ok (field-ok (ok .types) _ (field-in (ok .types) _ b r (ltb-true b _ (f .1))) .some) (child-value a _ (g .a-ok)))
   tree-by-kind-ok constant a b g = value-tree number-ok
   tree-by-kind-ok sum a b g = value-tree (sum-ok (child-value a _ (g .a-ok)) (child-value b _ (g .b-ok)))
   tree-by-kind-ok read a b g = value-tree (read-ok (child-place a _ (g .a-ok)))
@@ -151,7 +152,7 @@ trees-ok ok zero h i less = absurd (not-suc-le-zero less)
 trees-ok {t} ok (suc n) h i less = go (ℕ-discrete i n) (trees-ok ok n (omega arith))
   where
     go : Dec (i ≡ n) → ((j : ℕ) → j < n → Tree-ok (count t variables) (sort-of (node-kind t j)) (tree-of t j)) → Tree-ok (count t variables) (sort-of (node-kind t i)) (tree-of t i)
-    go (yes e) below = rw e (tree-by-kind-ok ok n h below (node-kind t n) (node-a t n) (node-b t n) (node-ok ok n h))
+    go (yes e) below = rw e (tree-by-kind-ok ok n h below (node-kind t n) (node-a t n) (node-b t n) (node-ok t n (ok .node-passes n h)))
     go (no e) below = below i (omega arith)
 
 -- ---- a command's two nodes
