@@ -1,0 +1,102 @@
+//! Random cases, the same ones for the same seed and index.
+
+mod damage;
+mod deep;
+mod expression;
+mod pointer;
+mod random;
+mod routine;
+mod soup;
+mod types;
+
+use crate::text::{Call, Case};
+use random::Random;
+use routine::Routine;
+use types::Types;
+
+/// Appends the line of case `index` of a seed, its byte 10 included.
+pub fn line(seed: u64, index: u64, out: &mut Vec<u8>) {
+    let mut random = Random::new(seed, index);
+    let start = out.len();
+    let case = case(&mut random);
+    case.write(out);
+    if random.below(400) == 0 {
+        spoil(&mut random, out, start);
+    }
+}
+
+/// The mixture of cases, in thousandths.
+fn case(random: &mut Random) -> Case {
+    let mut case = match random.weighted(&[640, 240, 50, 35, 15, 20]) {
+        0 => well_formed(random).case(),
+        1 => {
+            let mut case = well_formed(random).case();
+            damage::damage(random, &mut case);
+            case
+        }
+        2 => soup::sections(random),
+        3 => soup::words(random),
+        4 => large(random),
+        _ => shuffled(random, deep::routine).case(),
+    };
+    if random.percent(20) {
+        case.call = Call::Check;
+    }
+    if random.percent(5) {
+        case.blocks = random.below(201);
+    }
+    case
+}
+
+fn well_formed(random: &mut Random) -> Routine {
+    shuffled(random, Routine::small)
+}
+
+/// A routine whose nodes stand, half of the time, in another order.
+fn shuffled(random: &mut Random, make: fn(&mut Random) -> Routine) -> Routine {
+    let mut routine = make(random);
+    if random.percent(50) {
+        routine.shuffle(random);
+    }
+    routine
+}
+
+/// A routine up to the limits of the table, sometimes damaged.
+fn large(random: &mut Random) -> Case {
+    let types = Types::large(random);
+    let variables = types.variables.len() as u32;
+    let length = 1 + variables + random.between(20, 400);
+    let mut routine = Routine::new(random, types, length);
+    let count = random.pick(&[40, 100, 256]);
+    routine.grow(random, count);
+    routine.fill(random, count);
+    if random.percent(50) {
+        routine.shuffle(random);
+    }
+    let mut case = routine.case();
+    if random.percent(30) {
+        damage::damage(random, &mut case);
+    }
+    case
+}
+
+/// Makes the line that begins at `start` no case, or almost none, in a way that
+/// stays so whatever requests land later.
+fn spoil(random: &mut Random, out: &mut Vec<u8>, start: usize) {
+    let at = start + random.index(out.len() - 1 - start);
+    match random.below(8) {
+        0 => out.truncate(out.len() - 1 - random.index(3)),
+        1 => out.insert(at, b'x'),
+        2 => out.splice(start..start, *b" ").for_each(drop),
+        3 => out.splice(start..=start, *b"4").for_each(drop),
+        4 => out.insert(out.len() - 1, b' '),
+        5 => out.splice(out.len() - 1.., *b" 7\n").for_each(drop),
+        6 => out.truncate(start),
+        _ => out
+            .splice(out.len() - 1.., *b"99999999999\n")
+            .for_each(drop),
+    }
+    if out.last() != Some(&b'\n') || out.len() == start {
+        out.push(b'\n');
+    }
+}

@@ -1,0 +1,222 @@
+//! Random routines that pass the check.
+//!
+//! A routine grows command by command. What each command would do is tried
+//! with the machine itself before it is kept, so that a wanted ending comes
+//! after several commands and not at the first; a wrong trial only makes for
+//! another mixture of cases, never for a wrong case.
+
+use super::expression::Expressions;
+use super::random::Random;
+use super::types::Types;
+use crate::machine::{self, kind, Answer};
+use crate::text::{Call, Case};
+
+/// How a routine shall end.
+#[derive(Clone, Copy, PartialEq, Eq)]
+pub enum Wanted {
+    Done,
+    Abort,
+    NoRoom,
+}
+
+pub struct Routine {
+    pub types: Types,
+    pub nodes: Vec<[u32; 3]>,
+    pub commands: Vec<[u32; 2]>,
+    pub inputs: Vec<u32>,
+    pub length: u32,
+    /// Memory and U as the commands so far leave them.
+    pub memory: [Vec<u32>; 3],
+    pub unused: u32,
+}
+
+/// The limits of document 01 on nodes and commands.
+const MAX_NODES: usize = 512;
+const MAX_COMMANDS: usize = 256;
+
+impl Routine {
+    pub fn new(random: &mut Random, types: Types, length: u32) -> Routine {
+        let inputs = types.variables.iter();
+        let inputs = inputs.map(|&t| if t == 0 { random.number() } else { 0 });
+        let mut routine = Routine {
+            inputs: inputs.collect(),
+            types,
+            nodes: Vec::new(),
+            commands: Vec::new(),
+            length,
+            memory: [const { Vec::new() }; 3],
+            unused: 0,
+        };
+        routine.trial();
+        routine
+    }
+
+    /// A routine of some commands with some ending.
+    pub fn small(random: &mut Random) -> Routine {
+        let types = Types::small(random);
+        let room = match random.weighted(&[45, 40, 13, 2]) {
+            0 => random.below(16),
+            1 => random.between(8, 48),
+            2 => random.between(40, 300),
+            _ => random.pick(&[1_000, 4_096, 60_000]),
+        };
+        let length = 1 + types.variables.len() as u32 + room;
+        let mut routine = Routine::new(random, types, length);
+        let commands = random.weighted(&[4, 6, 8, 10, 10, 10, 10, 9, 8, 7, 6, 5, 4, 3]);
+        routine.grow(random, commands);
+        let wanted = random.pick(&[Wanted::Done, Wanted::Abort, Wanted::NoRoom]);
+        routine.end(random, wanted);
+        routine
+    }
+
+    /// Adds up to `count` commands with which the run is still done.
+    pub fn grow(&mut self, random: &mut Random, count: usize) {
+        for _ in 0..count {
+            self.add(random, Wanted::Done, 5);
+        }
+    }
+
+    /// Adds the shortest commands until there are `count`, as far as variables
+    /// of type int and the limits allow.
+    pub fn fill(&mut self, random: &mut Random, count: usize) {
+        let ints = self.types.variables_of(0);
+        while !ints.is_empty() && self.commands.len() < count && self.nodes.len() + 2 <= MAX_NODES {
+            let at = self.nodes.len() as u32;
+            self.nodes.push([kind::VARIABLE, random.pick(&ints), 0]);
+            self.nodes.push([kind::CONSTANT, random.number(), 0]);
+            self.commands.push([at, at + 1]);
+        }
+    }
+
+    /// Adds commands that bring about the ending, and some never reached.
+    fn end(&mut self, random: &mut Random, wanted: Wanted) {
+        if wanted == Wanted::Done {
+            return;
+        }
+        if self.add(random, wanted, 12) {
+            for _ in 0..random.weighted(&[50, 30, 20]) {
+                self.try_command(random, wanted);
+            }
+        }
+    }
+
+    /// Adds one command that is wanted so, within some tries.
+    pub fn add(&mut self, random: &mut Random, wanted: Wanted, tries: usize) -> bool {
+        for _ in 0..tries {
+            let (nodes, commands) = (self.nodes.len(), self.commands.len());
+            if !self.try_command(random, wanted) {
+                return false;
+            }
+            if self.trial() == wanted {
+                return true;
+            }
+            self.nodes.truncate(nodes);
+            self.commands.truncate(commands);
+        }
+        self.trial();
+        false
+    }
+
+    /// Adds a random command. False when the limits leave no place for it.
+    fn try_command(&mut self, random: &mut Random, wanted: Wanted) -> bool {
+        let (nodes, commands) = (self.nodes.len(), self.commands.len());
+        let command = Expressions::new(self, random, wanted).command();
+        let Some(command) = command else {
+            return false;
+        };
+        self.commands.push(command);
+        if self.nodes.len() > MAX_NODES || self.commands.len() > MAX_COMMANDS {
+            self.nodes.truncate(nodes);
+            self.commands.truncate(commands);
+            return false;
+        }
+        true
+    }
+
+    /// Runs what there is and keeps the memory it leaves.
+    fn trial(&mut self) -> Wanted {
+        let table = self.table();
+        let length = self.length as usize;
+        self.memory
+            .iter_mut()
+            .for_each(|list| list.resize(length, 0));
+        let [values, bases, ends] = &mut self.memory;
+        let answer = machine::run(&table, &self.inputs, values, bases, ends);
+        let (wanted, unused) = match answer {
+            Answer::Done { unused } => (Wanted::Done, unused),
+            Answer::Abort { unused, .. } => (Wanted::Abort, unused),
+            Answer::NoRoom { unused, .. } => (Wanted::NoRoom, unused),
+            Answer::Refused(_) => (Wanted::Done, 1),
+        };
+        self.unused = unused;
+        wanted
+    }
+
+    /// The table of the routine.
+    pub fn table(&self) -> Vec<u32> {
+        let mut table = Vec::new();
+        let records = &self.types.records;
+        table.push(records.len() as u32);
+        table.extend(records.iter().map(|fields| fields.len() as u32));
+        table.push(records.iter().map(|fields| fields.len() as u32).sum());
+        table.extend(records.iter().flatten().flatten());
+        for list in [&self.types.pointers, &self.types.variables] {
+            table.push(list.len() as u32);
+            table.extend(list);
+        }
+        table.push(self.nodes.len() as u32);
+        table.extend(self.nodes.iter().flatten());
+        table.push(self.commands.len() as u32);
+        table.extend(self.commands.iter().flatten());
+        table
+    }
+
+    pub fn case(&self) -> Case {
+        Case {
+            call: Call::Run,
+            lengths: [self.length; 3],
+            blocks: 0,
+            inputs: self.inputs.clone(),
+            table: self.table(),
+        }
+    }
+
+    /// Puts the nodes in another order in which children still come first.
+    pub fn shuffle(&mut self, random: &mut Random) {
+        let mut keys: Vec<(u64, usize)> = Vec::new();
+        for (i, &node) in self.nodes.iter().enumerate() {
+            let after = children(node).map(|c| keys[c as usize].0).max();
+            let step = 1 + u64::from(random.word());
+            keys.push((after.unwrap_or(0) + step, i));
+        }
+        keys.sort_unstable();
+        let mut place_of = vec![0; self.nodes.len()];
+        for (new, &(_, old)) in keys.iter().enumerate() {
+            place_of[old] = new as u32;
+        }
+        let old = std::mem::take(&mut self.nodes);
+        for &(_, i) in &keys {
+            self.nodes.push(renumber(old[i], &place_of));
+        }
+        for word in self.commands.as_flattened_mut() {
+            *word = place_of[*word as usize];
+        }
+    }
+}
+
+/// The children of a node.
+pub fn children([kind, a, b]: [u32; 3]) -> impl Iterator<Item = u32> {
+    let leaf = matches!(kind, kind::VARIABLE | kind::CONSTANT | kind::SIZE);
+    let first = (!leaf).then_some(a);
+    let second = (kind == kind::SUM).then_some(b);
+    first.into_iter().chain(second)
+}
+
+fn renumber([kind, a, b]: [u32; 3], place_of: &[u32]) -> [u32; 3] {
+    let new = |child: u32| place_of[child as usize];
+    match kind {
+        kind::VARIABLE | kind::CONSTANT | kind::SIZE => [kind, a, b],
+        kind::SUM => [kind, new(a), new(b)],
+        _ => [kind, new(a), b],
+    }
+}

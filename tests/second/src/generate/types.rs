@@ -1,0 +1,134 @@
+//! Random records, fields, pointers and variables that pass the check.
+
+use super::random::Random;
+
+pub const INT: u32 = 0;
+pub const VOID_POINTER: u32 = 1;
+pub const RECORD: u32 = 65_536;
+
+#[derive(Clone, Default)]
+pub struct Types {
+    /// Each record as its fields: a type and a count of words.
+    pub records: Vec<Vec<[u32; 2]>>,
+    pub pointers: Vec<u32>,
+    pub variables: Vec<u32>,
+}
+
+impl Types {
+    /// Few of each, and many ways from one type to another.
+    pub fn small(random: &mut Random) -> Types {
+        let records = random.weighted(&[20, 35, 25, 12, 8]);
+        let pointers = random.between(1, 7) as usize;
+        let variables = random.weighted(&[2, 14, 22, 22, 18, 12, 10]);
+        Types::with(random, [records, pointers, variables], 4)
+    }
+
+    /// As many as the limits allow, or nearly.
+    pub fn large(random: &mut Random) -> Types {
+        let mut near = |limit: u32| match random.below(3) {
+            0 => limit as usize,
+            _ => random.between(limit / 2, limit) as usize,
+        };
+        let counts = [near(32), near(64), near(64)];
+        let fields = (128 / counts[0].max(1)) as u32;
+        Types::with(random, counts, fields.max(1))
+    }
+
+    fn with(random: &mut Random, counts: [usize; 3], fields: u32) -> Types {
+        let [records, pointers, variables] = counts;
+        let types = 2 + pointers as u32;
+        let mut made = Types::default();
+        for _ in 0..records {
+            let count = random.between(1, fields);
+            let record = (0..count).map(|_| [any_type(random, types), words(random)]);
+            made.records.push(record.collect());
+        }
+        made.pointers = targets(random, pointers, records as u32);
+        made.variables = (0..variables).map(|_| any_type(random, types)).collect();
+        made
+    }
+
+    /// How many types there are.
+    pub fn count(&self) -> u32 {
+        2 + self.pointers.len() as u32
+    }
+
+    /// What a pointer type points to; int and pointer to void have nothing.
+    pub fn target(&self, typ: u32) -> Option<u32> {
+        let entry = typ.checked_sub(2)?;
+        self.pointers.get(entry as usize).copied()
+    }
+
+    /// The type of pointers to `target`.
+    pub fn pointer_to(&self, target: u32) -> Option<u32> {
+        let entry = self.pointers.iter().position(|&t| t == target)?;
+        Some(2 + entry as u32)
+    }
+
+    /// The record that a pointer type points to.
+    pub fn record(&self, typ: u32) -> Option<usize> {
+        let record = self.target(typ)?.checked_sub(RECORD)?;
+        Some(record as usize)
+    }
+
+    /// Variables of a type.
+    pub fn variables_of(&self, typ: u32) -> Vec<u32> {
+        let numbers = 0..self.variables.len() as u32;
+        numbers
+            .filter(|&n| self.variables[n as usize] == typ)
+            .collect()
+    }
+
+    /// Ways to a field of type `typ`: a pointer type and a field number.
+    pub fn fields_of(&self, typ: u32) -> Vec<[u32; 2]> {
+        let mut found = Vec::new();
+        for (record, fields) in self.records.iter().enumerate() {
+            let Some(pointer) = self.pointer_to(RECORD + record as u32) else {
+                continue;
+            };
+            for (b, &[field, _]) in fields.iter().enumerate() {
+                if field == typ {
+                    found.push([pointer, b as u32]);
+                }
+            }
+        }
+        found
+    }
+}
+
+fn any_type(random: &mut Random, types: u32) -> u32 {
+    match random.weighted(&[25, 8, 67]) {
+        0 => INT,
+        1 => VOID_POINTER,
+        _ => random.below(types),
+    }
+}
+
+fn words(random: &mut Random) -> u32 {
+    match random.weighted(&[55, 35, 8, 2]) {
+        0 => 1,
+        1 => random.between(1, 4),
+        2 => random.between(1, 20),
+        _ => random.pick(&[4_095, 4_096, 100]),
+    }
+}
+
+/// Different targets: int almost always, records gladly, then other pointers.
+fn targets(random: &mut Random, count: usize, records: u32) -> Vec<u32> {
+    let types = 2 + count as u32;
+    let mut left: Vec<u32> = (0..types).chain((0..records).map(|r| RECORD + r)).collect();
+    let mut chosen = Vec::new();
+    while chosen.len() < count {
+        let at = match random.weighted(&[40, 30, 30]) {
+            0 => 0,
+            1 => left.len() - 1,
+            _ => random.index(left.len()),
+        };
+        chosen.push(left.remove(at));
+    }
+    for i in (1..chosen.len()).rev() {
+        let other = random.index(i + 1);
+        chosen.swap(i, other);
+    }
+    chosen
+}

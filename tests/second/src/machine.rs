@@ -1,0 +1,178 @@
+//! The check and the run of document 01. No input or output happens here.
+//!
+//! [`check`] judges a table alone. [`run`] is the whole call: the check, the
+//! conditions on the call (10 and 11), then the routine. Both work in buffers
+//! that are used again from call to call; [`Machine`] lends them out one by
+//! one, so that checking and executing can also be done, and timed, apart.
+
+mod check;
+mod declarations;
+mod execute;
+mod layout;
+
+use declarations::Declarations;
+use execute::Memory;
+use layout::{Layout, MAX_NODES};
+use std::cell::RefCell;
+
+/// Why a call is turned away, and where: the numbers and places of "What is
+/// turned away".
+#[derive(Clone, Copy, Debug, PartialEq, Eq)]
+pub struct Refusal {
+    pub number: u32,
+    pub place: usize,
+}
+
+impl Refusal {
+    #[cold]
+    fn new(number: u32, place: usize) -> Refusal {
+        Refusal { number, place }
+    }
+}
+
+/// What the check alone answers.
+#[derive(Clone, Copy, Debug, PartialEq, Eq)]
+pub enum Verdict {
+    Pass,
+    Refused(Refusal),
+}
+
+/// What a run answers. `unused` is U, the first unused word.
+#[derive(Clone, Copy, Debug, PartialEq, Eq)]
+pub enum Answer {
+    Refused(Refusal),
+    Done { unused: u32 },
+    Abort { command: u32, unused: u32 },
+    NoRoom { command: u32, unused: u32 },
+}
+
+/// The type of ints. Type 1 is pointer to void, and 2 + i pointer entry i.
+const INT: u8 = 0;
+const VOID_POINTER: u8 = 1;
+/// A target from this number on is a record.
+const RECORD: u32 = 65_536;
+
+/// The kinds of nodes: 1 to 3 are places, 4 to 10 values.
+pub mod kind {
+    pub const VARIABLE: u32 = 1;
+    pub const DEREF: u32 = 2;
+    pub const FIELD: u32 = 3;
+    pub const CONSTANT: u32 = 4;
+    pub const SUM: u32 = 5;
+    pub const READ: u32 = 6;
+    pub const ADDRESS: u32 = 7;
+    pub const CAST: u32 = 8;
+    pub const SIZE: u32 = 9;
+    pub const MALLOC: u32 = 10;
+}
+
+/// Buffers for calls. What a call leaves in them means nothing to the next:
+/// each word is written before it is looked at.
+pub struct Machine {
+    declarations: Declarations,
+    /// Node to its type, with [`check::PLACE`] added where it is a place.
+    notes: [u8; MAX_NODES],
+    /// Node to 1 once it is used, else 0.
+    used: [u8; MAX_NODES],
+}
+
+/// A table that passed, ready to be executed any number of times.
+pub struct Checked<'m, 't> {
+    layout: Layout<'t>,
+    declarations: &'m Declarations,
+    notes: &'m [u8; MAX_NODES],
+}
+
+thread_local! {
+    static MACHINE: RefCell<Machine> = const { RefCell::new(Machine::new()) };
+}
+
+/// The check alone: refusals 1 to 9, or pass.
+pub fn check(table: &[u32]) -> Verdict {
+    MACHINE.with_borrow_mut(|machine| match machine.check(table) {
+        Ok(_) => Verdict::Pass,
+        Err(refusal) => Verdict::Refused(refusal),
+    })
+}
+
+/// The whole call. "A refusal answers number and place and writes nowhere."
+pub fn run(
+    table: &[u32],
+    inputs: &[u32],
+    values: &mut [u32],
+    bases: &mut [u32],
+    ends: &mut [u32],
+) -> Answer {
+    MACHINE.with_borrow_mut(|machine| match machine.check(table) {
+        Ok(checked) => checked.execute(inputs, values, bases, ends),
+        Err(refusal) => Answer::Refused(refusal),
+    })
+}
+
+impl Default for Machine {
+    fn default() -> Machine {
+        Machine::new()
+    }
+}
+
+impl Machine {
+    pub const fn new() -> Machine {
+        Machine {
+            declarations: Declarations::new(),
+            notes: [0; MAX_NODES],
+            used: [0; MAX_NODES],
+        }
+    }
+
+    /// The check, keeping what an execution needs to know of the table.
+    pub fn check<'m, 't>(&'m mut self, table: &'t [u32]) -> Result<Checked<'m, 't>, Refusal> {
+        let layout = Layout::of(table)?;
+        self.declarations.check(&layout)?;
+        check::nodes_and_commands(&layout, &self.declarations, &mut self.notes, &mut self.used)?;
+        Ok(Checked {
+            layout,
+            declarations: &self.declarations,
+            notes: &self.notes,
+        })
+    }
+}
+
+impl Checked<'_, '_> {
+    /// The call's own conditions, then the run.
+    pub fn execute(
+        &self,
+        inputs: &[u32],
+        values: &mut [u32],
+        bases: &mut [u32],
+        ends: &mut [u32],
+    ) -> Answer {
+        let lengths = [values.len(), bases.len(), ends.len()];
+        if let Err(refusal) = self.admit(inputs, lengths) {
+            return Answer::Refused(refusal);
+        }
+        values.fill(0);
+        bases.fill(0);
+        ends.fill(0);
+        values[1..=inputs.len()].copy_from_slice(inputs);
+        Memory::new(self, values, bases, ends).execute(self.layout.commands)
+    }
+
+    /// Conditions 10 and 11, in this order.
+    fn admit(&self, inputs: &[u32], lengths: [usize; 3]) -> Result<(), Refusal> {
+        let variables = self.layout.variables;
+        let [length, bases, ends] = lengths;
+        // "the length isn't from 1 + variables to 65,536"
+        let fits = length > variables.len() && length <= 65_536;
+        if bases != length || ends != length || !fits {
+            return Err(Refusal::new(10, 0));
+        }
+        if inputs.len() != variables.len() {
+            return Err(Refusal::new(11, variables.len()));
+        }
+        let mut pairs = variables.iter().zip(inputs);
+        match pairs.position(|(&typ, &input)| typ != u32::from(INT) && input != 0) {
+            Some(pointer) => Err(Refusal::new(11, pointer)),
+            None => Ok(()),
+        }
+    }
+}

@@ -1,0 +1,201 @@
+//! The steps of document 01 on the lent memory.
+//!
+//! A value and a place are worked out by two functions that call each other,
+//! each giving the value or the word, or nothing when the run has to stop.
+//! The bounds that go with the latest value or place stand in `base` and
+//! `end`: most nodes pass them on untouched.
+//!
+//! Bounds of an int are never looked at: an int store leaves bounds alone, and
+//! the one way from an int to a pointer is a cast, which drops them. So they
+//! are dropped there only, and no read or constant has to.
+
+use super::declarations::Declarations;
+use super::layout::{Layout, MAX_NODES};
+use super::{kind, Answer, Checked, INT};
+
+#[derive(Clone, Copy)]
+enum Stop {
+    Abort,
+    NoRoom,
+}
+
+pub struct Memory<'m> {
+    nodes: &'m [[u32; 3]],
+    notes: &'m [u8; MAX_NODES],
+    layout: &'m Layout<'m>,
+    declarations: &'m Declarations,
+    values: &'m mut [u32],
+    bases: &'m mut [u32],
+    ends: &'m mut [u32],
+    /// U, the first unused word.
+    unused: u32,
+    /// Bounds of the latest value or place: [base, end), or 0 and 0.
+    base: u32,
+    end: u32,
+    /// Why the run stops, when it does.
+    stop: Stop,
+}
+
+impl<'m> Memory<'m> {
+    pub fn new(
+        checked: &'m Checked,
+        values: &'m mut [u32],
+        bases: &'m mut [u32],
+        ends: &'m mut [u32],
+    ) -> Memory<'m> {
+        Memory {
+            nodes: checked.layout.nodes,
+            notes: checked.notes,
+            layout: &checked.layout,
+            declarations: checked.declarations,
+            values,
+            bases,
+            ends,
+            unused: 1 + checked.layout.variables.len() as u32,
+            base: 0,
+            end: 0,
+            stop: Stop::Abort,
+        }
+    }
+
+    pub fn execute(&mut self, commands: &[[u32; 2]]) -> Answer {
+        for (i, &[place, value]) in commands.iter().enumerate() {
+            if self.assign(place, value).is_none() {
+                let (command, unused) = (i as u32, self.unused);
+                return match self.stop {
+                    Stop::Abort => Answer::Abort { command, unused },
+                    Stop::NoRoom => Answer::NoRoom { command, unused },
+                };
+            }
+        }
+        Answer::Done {
+            unused: self.unused,
+        }
+    }
+
+    /// "A command's place before its value": the place's check is not made
+    /// again after the value. "A pointer type stores value, base and end; int
+    /// stores the value only, and the word's base and end stay."
+    #[inline(always)]
+    fn assign(&mut self, place: u32, node: u32) -> Option<()> {
+        let w = self.word(place)?;
+        let value = self.value(node)?;
+        self.values[w] = value;
+        if self.notes[node as usize] != INT {
+            self.bases[w] = self.base;
+            self.ends[w] = self.end;
+        }
+        Some(())
+    }
+
+    /// The word of a place whose bounds are of no interest.
+    #[inline(always)]
+    fn word(&mut self, node: u32) -> Option<usize> {
+        let [kind, a, _] = self.nodes[node as usize];
+        let word = match kind {
+            kind::VARIABLE => 1 + a,
+            _ => self.place(node)?,
+        };
+        Some(word as usize)
+    }
+
+    fn place(&mut self, node: u32) -> Option<u32> {
+        let [kind, a, b] = self.nodes[node as usize];
+        match kind {
+            kind::VARIABLE => {
+                (self.base, self.end) = (1 + a, 2 + a);
+                Some(1 + a)
+            }
+            kind::DEREF => {
+                let v = self.value(a)?;
+                // v + 1 <= end, exactly
+                (self.base <= v && v < self.end).then_some(v)
+            }
+            _ => {
+                let v = self.value(a)?;
+                self.field(v, self.notes[a as usize], b)
+            }
+        }
+    }
+
+    /// The field with number `b` of the record at `v`: "it passes when b <= w
+    /// and w + k <= e", in exact sums, hence in 64 bits.
+    #[inline(always)]
+    fn field(&mut self, v: u32, pointer: u8, b: u32) -> Option<u32> {
+        let field = self.declarations.field(self.layout, pointer, b)?;
+        let [_, words] = self.layout.fields[field];
+        let w = u64::from(v) + u64::from(self.declarations.offset(field));
+        let end = w + u64::from(words);
+        if u64::from(self.base) <= w && end <= u64::from(self.end) {
+            (self.base, self.end) = (w as u32, end as u32);
+            Some(w as u32)
+        } else {
+            None
+        }
+    }
+
+    fn value(&mut self, node: u32) -> Option<u32> {
+        let [kind, a, b] = self.nodes[node as usize];
+        match kind {
+            kind::CONSTANT => Some(a),
+            kind::SUM => self.sum(a, b),
+            kind::READ => self.read(a),
+            kind::ADDRESS => self.place(a),
+            kind::CAST => self.cast(a),
+            kind::SIZE => self.declarations.size(self.layout, a),
+            _ => {
+                let words = self.value(a)?;
+                self.malloc(words)
+            }
+        }
+    }
+
+    /// The sum has the bounds of its first part.
+    #[inline(always)]
+    fn sum(&mut self, a: u32, b: u32) -> Option<u32> {
+        let left = self.value(a)?;
+        let [kind, number, _] = self.nodes[b as usize];
+        if kind == kind::CONSTANT {
+            return Some(left.wrapping_add(number));
+        }
+        let bounds = (self.base, self.end);
+        let right = self.value(b)?;
+        (self.base, self.end) = bounds;
+        Some(left.wrapping_add(right))
+    }
+
+    #[inline(always)]
+    fn read(&mut self, a: u32) -> Option<u32> {
+        let w = self.word(a)?;
+        (self.base, self.end) = (self.bases[w], self.ends[w]);
+        Some(self.values[w])
+    }
+
+    /// "Pointer to pointer keeps everything; from int, or to int, the value is
+    /// kept without bounds." To int, nobody looks at them.
+    #[inline(always)]
+    fn cast(&mut self, a: u32) -> Option<u32> {
+        let v = self.value(a)?;
+        if self.notes[a as usize] == INT {
+            (self.base, self.end) = (0, 0);
+        }
+        Some(v)
+    }
+
+    /// The new words are clear already: nothing above U was ever written.
+    #[inline(always)]
+    fn malloc(&mut self, words: u32) -> Option<u32> {
+        if words == 0 {
+            (self.base, self.end) = (0, 0);
+            return Some(0);
+        }
+        if words as usize > self.values.len() - self.unused as usize {
+            self.stop = Stop::NoRoom;
+            return None;
+        }
+        self.base = self.unused;
+        self.unused += words;
+        self.end = self.unused;
+        Some(self.base)
+    }
+}

@@ -1,0 +1,251 @@
+//! Recorded cases as text: one line in, one line out.
+//!
+//! Decided where CASES.md is silent:
+//! - A number may have leading zeros, any number of them, as in document 01's
+//!   bench text. It has no sign and at least one digit.
+//! - Nothing stands before the first number or after the last one of a line,
+//!   not even a space or a carriage return; an empty line is no case.
+//! - Text after the last byte 10 of the input is taken as one more line.
+//! - The limits and fixed fields hold for the check alone (CALL 1) too, since
+//!   a line has to be a case before any call is made.
+
+use crate::machine::{self, Answer, Refusal, Verdict};
+
+const MAX_LIST: u32 = 65_537;
+const MAX_BLOCKS: u32 = 200;
+const MAX_INPUTS: u32 = 100;
+const MAX_TABLE: u32 = 4_000;
+/// Every word of a lent list arrives with this.
+const LENT: u32 = 7;
+
+#[derive(Clone, Copy, Debug, Default, PartialEq, Eq)]
+pub enum Call {
+    #[default]
+    Run,
+    Check,
+}
+
+/// One case of the base: LIGHT and NR are 0, and LK tells nothing.
+#[derive(Clone, Debug, Default, PartialEq, Eq)]
+pub struct Case {
+    pub call: Call,
+    /// Lengths of the lists of values, bases and ends.
+    pub lengths: [u32; 3],
+    /// LK, read and not used.
+    pub blocks: u32,
+    pub inputs: Vec<u32>,
+    pub table: Vec<u32>,
+}
+
+impl Case {
+    /// Reads a line without its byte 10 into `self`, whose lists are used
+    /// again. None when the line is no case; `self` is then of no meaning.
+    pub fn read(&mut self, line: &[u8]) -> Option<()> {
+        let mut numbers = Numbers { line, at: 0 };
+        self.call = match numbers.first()? {
+            0 => Call::Run,
+            1 => Call::Check,
+            _ => return None,
+        };
+        numbers.up_to(0)?; // LIGHT
+        for length in &mut self.lengths {
+            *length = numbers.up_to(MAX_LIST)?;
+        }
+        self.blocks = numbers.up_to(MAX_BLOCKS)?;
+        numbers.list(MAX_INPUTS, &mut self.inputs)?;
+        numbers.up_to(0)?; // NR
+        numbers.list(MAX_TABLE, &mut self.table)?;
+        numbers.finished()
+    }
+
+    /// Writes the case as a line with its byte 10.
+    pub fn write(&self, out: &mut Vec<u8>) {
+        let call = match self.call {
+            Call::Run => 0,
+            Call::Check => 1,
+        };
+        let [values, bases, ends] = self.lengths;
+        write_number(out, call);
+        for number in [0, values, bases, ends, self.blocks] {
+            write_next(out, number);
+        }
+        write_next(out, self.inputs.len() as u32);
+        self.inputs.iter().for_each(|&word| write_next(out, word));
+        write_next(out, 0);
+        write_next(out, self.table.len() as u32);
+        self.table.iter().for_each(|&word| write_next(out, word));
+        out.push(b'\n');
+    }
+}
+
+/// Reads numbers parted by single spaces.
+struct Numbers<'l> {
+    line: &'l [u8],
+    at: usize,
+}
+
+impl Numbers<'_> {
+    fn first(&mut self) -> Option<u32> {
+        let digits = &self.line[self.at..];
+        let mut number = 0u64;
+        let mut length = 0;
+        for &byte in digits {
+            let digit = byte.wrapping_sub(b'0');
+            if digit > 9 {
+                break;
+            }
+            number = 10 * number + u64::from(digit);
+            if number > u64::from(u32::MAX) {
+                return None;
+            }
+            length += 1;
+        }
+        self.at += length;
+        (length > 0).then_some(number as u32)
+    }
+
+    fn next(&mut self) -> Option<u32> {
+        if self.line.get(self.at) != Some(&b' ') {
+            return None;
+        }
+        self.at += 1;
+        self.first()
+    }
+
+    fn up_to(&mut self, maximum: u32) -> Option<u32> {
+        self.next().filter(|&number| number <= maximum)
+    }
+
+    fn list(&mut self, maximum: u32, words: &mut Vec<u32>) -> Option<()> {
+        let count = self.up_to(maximum)?;
+        words.clear();
+        for _ in 0..count {
+            words.push(self.next()?);
+        }
+        Some(())
+    }
+
+    fn finished(&self) -> Option<()> {
+        (self.at == self.line.len()).then_some(())
+    }
+}
+
+/// Answers lines one after the other, with lists used again.
+pub struct Answerer {
+    case: Case,
+    lists: [Vec<u32>; 3],
+}
+
+impl Default for Answerer {
+    fn default() -> Self {
+        let list = || vec![LENT; MAX_LIST as usize];
+        Answerer {
+            case: Case::default(),
+            lists: [list(), list(), list()],
+        }
+    }
+}
+
+impl Answerer {
+    /// Appends the answer to a line (without its byte 10) to `out`, as a line.
+    pub fn answer(&mut self, line: &[u8], out: &mut Vec<u8>) {
+        if self.case.read(line).is_none() {
+            out.extend_from_slice(b"case");
+        } else if self.case.call == Call::Run {
+            self.run(out);
+        } else {
+            match machine::check(&self.case.table) {
+                Verdict::Pass => out.extend_from_slice(b"pass"),
+                Verdict::Refused(refusal) => write_refusal(out, refusal),
+            }
+        }
+        out.push(b'\n');
+    }
+
+    fn run(&mut self, out: &mut Vec<u8>) {
+        let Case {
+            lengths,
+            inputs,
+            table,
+            ..
+        } = &self.case;
+        let [values, bases, ends] = &mut self.lists;
+        let values = lend(values, lengths[0]);
+        let bases = lend(bases, lengths[1]);
+        let ends = lend(ends, lengths[2]);
+        let answer = machine::run(table, inputs, values, bases, ends);
+        if let Answer::Refused(refusal) = answer {
+            write_refusal(out, refusal);
+            let lent = [&*values, &*bases, &*ends];
+            if lent.iter().any(|list| list.iter().any(|&w| w != LENT)) {
+                out.extend_from_slice(b" changed");
+            }
+        } else {
+            let unused = write_ending(out, answer);
+            write_memory(out, unused, [values, bases, ends]);
+        }
+    }
+}
+
+fn lend(list: &mut [u32], length: u32) -> &mut [u32] {
+    let lent = &mut list[..length as usize];
+    lent.fill(LENT);
+    lent
+}
+
+fn write_refusal(out: &mut Vec<u8>, refusal: Refusal) {
+    out.extend_from_slice(b"refused");
+    write_next(out, refusal.number);
+    write_next(out, refusal.place as u32);
+}
+
+/// Writes the ending of a begun run and gives back U.
+fn write_ending(out: &mut Vec<u8>, answer: Answer) -> u32 {
+    let (word, command, unused): (&[u8], _, _) = match answer {
+        Answer::Refused(refusal) => unreachable!("no run was begun: {refusal:?}"),
+        Answer::Done { unused } => (b"done", None, unused),
+        Answer::Abort { command, unused } => (b"abort", Some(command), unused),
+        Answer::NoRoom { command, unused } => (b"noroom", Some(command), unused),
+    };
+    out.extend_from_slice(word);
+    if let Some(command) = command {
+        write_next(out, command);
+    }
+    write_next(out, unused);
+    unused
+}
+
+/// Words 1 to U - 1 as value:base:end, or `-` where there is none.
+fn write_memory(out: &mut Vec<u8>, unused: u32, [values, bases, ends]: [&mut [u32]; 3]) {
+    out.extend_from_slice(b" ;");
+    if unused == 1 {
+        out.extend_from_slice(b" -");
+    }
+    for word in 1..unused as usize {
+        write_next(out, values[word]);
+        out.push(b':');
+        write_number(out, bases[word]);
+        out.push(b':');
+        write_number(out, ends[word]);
+    }
+}
+
+fn write_next(out: &mut Vec<u8>, number: u32) {
+    out.push(b' ');
+    write_number(out, number);
+}
+
+fn write_number(out: &mut Vec<u8>, mut number: u32) {
+    if number < 10 {
+        out.push(b'0' + number as u8);
+        return;
+    }
+    let mut digits = [0u8; 10];
+    let mut first = digits.len();
+    while number > 0 {
+        first -= 1;
+        digits[first] = b'0' + (number % 10) as u8;
+        number /= 10;
+    }
+    out.extend_from_slice(&digits[first..]);
+}

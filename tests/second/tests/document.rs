@@ -1,0 +1,392 @@
+//! The examples of document 01: "What is turned away", "Routine A" and "Runs
+//! to compare".
+
+use second::machine::{check, run, Answer, Refusal, Verdict};
+
+/// A run on lists of `length` words, each lent with 7 in every word.
+struct Ran {
+    answer: Answer,
+    values: Vec<u32>,
+    bases: Vec<u32>,
+    ends: Vec<u32>,
+}
+
+impl Ran {
+    fn new(table: &[u32], inputs: &[u32], length: usize) -> Ran {
+        let lent = || vec![7; length];
+        let (mut values, mut bases, mut ends) = (lent(), lent(), lent());
+        let answer = run(table, inputs, &mut values, &mut bases, &mut ends);
+        Ran {
+            answer,
+            values,
+            bases,
+            ends,
+        }
+    }
+
+    fn word(&self, word: usize) -> [u32; 3] {
+        [self.values[word], self.bases[word], self.ends[word]]
+    }
+
+    fn untouched(&self) -> bool {
+        let lists = [&self.values, &self.bases, &self.ends];
+        lists.iter().all(|list| list.iter().all(|&word| word == 7))
+    }
+}
+
+fn done(unused: u32) -> Answer {
+    Answer::Done { unused }
+}
+
+fn abort(command: u32, unused: u32) -> Answer {
+    Answer::Abort { command, unused }
+}
+
+fn no_room(command: u32, unused: u32) -> Answer {
+    Answer::NoRoom { command, unused }
+}
+
+fn words(text: &str) -> Vec<u32> {
+    let numbers = text.split_whitespace().filter(|&word| word != "|");
+    numbers.map(|word| word.parse().unwrap()).collect()
+}
+
+/// The check refuses the table so, and a run of it does too.
+fn refused(text: &str, number: u32, place: usize) {
+    let table = words(text);
+    let refusal = Refusal { number, place };
+    assert_eq!(check(&table), Verdict::Refused(refusal), "{text}");
+    let ran = Ran::new(&table, &[], 8);
+    assert_eq!(ran.answer, Answer::Refused(refusal), "{text}");
+    assert!(ran.untouched(), "{text}");
+}
+
+#[test]
+fn refusals_of_the_check() {
+    refused("0 0 0", 1, 3);
+    refused("0 0 0 0 0 0 9", 2, 6);
+    refused("33", 3, 0);
+    refused("1 0 0 0 0 0 0", 4, 1);
+    refused("0 0 0 1 2 0 0", 5, 4);
+    refused("0 0 2 0 0 0 0 0", 6, 4);
+    refused("0 0 0 0 1 11 0 0 0", 7, 5);
+    refused("0 0 0 1 1 3 1 0 0 6 0 0 2 1 0 0", 8, 12);
+    refused("0 0 0 0 1 4 7 0 0", 9, 5);
+}
+
+#[test]
+fn refusals_of_the_call() {
+    let none = words("0 0 0 0 0 0");
+    let ten = Answer::Refused(Refusal {
+        number: 10,
+        place: 0,
+    });
+    assert_eq!(check(&none), Verdict::Pass);
+    assert_eq!(Ran::new(&none, &[], 0).answer, ten);
+    let one = words("0 0 0 1 1 0 0");
+    let ran = Ran::new(&one, &[5], 4);
+    let eleven = |place| Answer::Refused(Refusal { number: 11, place });
+    assert_eq!(ran.answer, eleven(0));
+    assert!(ran.untouched());
+    assert_eq!(Ran::new(&one, &[], 4).answer, eleven(1));
+    assert_eq!(Ran::new(&one, &[0, 0], 4).answer, eleven(1));
+    assert_eq!(Ran::new(&one, &[5], 1).answer, ten);
+    assert_eq!(Ran::new(&one, &[0], 65_536).answer, done(2));
+    assert_eq!(Ran::new(&one, &[0], 65_537).answer, ten);
+}
+
+#[test]
+fn lists_of_differing_length() {
+    let none = words("0 0 0 0 0 0");
+    for lengths in [[2, 3, 3], [3, 2, 3], [3, 3, 2], [3, 3, 0]] {
+        let [mut values, mut bases, mut ends] = lengths.map(|length| vec![7; length]);
+        let answer = run(&none, &[], &mut values, &mut bases, &mut ends);
+        let refusal = Refusal {
+            number: 10,
+            place: 0,
+        };
+        assert_eq!(answer, Answer::Refused(refusal));
+        let lists = [values, bases, ends];
+        assert!(lists.iter().flatten().all(|&word| word == 7));
+    }
+}
+
+/// Order and places that the table of refusals tells in words only.
+#[test]
+fn order_of_refusals() {
+    refused("", 1, 0);
+    refused("1", 1, 1);
+    refused("0 0 0 0 1 4 7 0", 1, 8);
+    // Extent of section 1 before the count of section 2.
+    refused("32 1 1", 1, 3);
+    // A count above its maximum before the contents of earlier sections.
+    refused("1 0 129", 3, 2);
+    // A wrong sum after all records' own words, before the fields.
+    refused("2 1 0 1 9 0 0 0 0 0", 4, 2);
+    refused("2 1 1 1 9 0 0 0 0 0", 4, 3);
+    refused("2 4294967295 2 1 9 0 0 0 0 0", 4, 3);
+    refused("1 1 1 9 0 0 0 0 0", 5, 3);
+    refused("1 1 1 0 0 0 0 0 0", 4, 4);
+    // An unknown target before a second one: word by word.
+    refused("0 0 3 0 9 0 0 0 0", 5, 4);
+    // A place where a value belongs, and the reverse.
+    refused("0 0 0 1 0 2 1 0 0 10 0 0 0", 7, 10);
+    refused("0 0 0 0 2 4 1 0 6 0 0 0", 7, 9);
+    // No such field is an 8, at the kind word, even for a huge b.
+    let field = "1 1 1 0 1 1 65536 1 2 3 1 0 0 6 0 0 3 1 4294967295 0";
+    refused(field, 8, 16);
+    // 9 names the lowest node, used twice or never.
+    refused("0 0 0 0 3 4 1 0 4 1 0 5 1 1 0", 9, 5);
+}
+
+const ROUTINE_A: &str = "1 2 | 2 0 2 0 2 | 2 65536 0 | 2 2 3 | 22 1 0 0 9 65536 0 10 1 0 \
+    8 2 2 1 1 0 1 0 0 6 5 0 3 6 0 7 7 0 1 1 0 6 9 0 2 10 0 4 9 0 1 1 0 1 1 0 6 14 0 4 2 0 \
+    5 15 16 1 1 0 6 18 0 2 19 0 4 9 0 | 5 0 3 4 8 11 12 13 17 20 21";
+
+#[test]
+fn routine_a() {
+    let ran = Ran::new(&words(ROUTINE_A), &[0, 0], 16);
+    assert_eq!(ran.answer, abort(4, 7));
+    let memory: Vec<_> = (1..7).map(|word| ran.word(word)).collect();
+    let expected = [
+        [3, 3, 7],
+        [5, 3, 5],
+        [9, 0, 0],
+        [0, 0, 0],
+        [0, 0, 0],
+        [0, 0, 0],
+    ];
+    assert_eq!(memory, expected);
+    assert!((7..16).chain([0]).all(|word| ran.word(word) == [0; 3]));
+}
+
+/// Routines over one variable p, pointer to int, in memory of 4 words.
+#[derive(Default)]
+struct Routine {
+    nodes: Vec<u32>,
+    commands: Vec<u32>,
+}
+
+const INT: u32 = 0;
+const POINTER: u32 = 2;
+
+impl Routine {
+    fn node(&mut self, kind: u32, a: u32, b: u32) -> u32 {
+        self.nodes.extend([kind, a, b]);
+        self.nodes.len() as u32 / 3 - 1
+    }
+
+    fn number(&mut self, word: u32) -> u32 {
+        self.node(4, word, 0)
+    }
+
+    fn variable(&mut self) -> u32 {
+        self.node(1, 0, 0)
+    }
+
+    fn p(&mut self) -> u32 {
+        let variable = self.variable();
+        self.node(6, variable, 0)
+    }
+
+    /// `p + n`
+    fn p_plus(&mut self, n: u32) -> u32 {
+        let p = self.p();
+        let n = self.number(n);
+        self.node(5, p, n)
+    }
+
+    fn deref(&mut self, value: u32) -> u32 {
+        self.node(2, value, 0)
+    }
+
+    fn cast(&mut self, value: u32, typ: u32) -> u32 {
+        self.node(8, value, typ)
+    }
+
+    fn malloc(&mut self, n: u32) -> u32 {
+        let n = self.number(n);
+        self.node(10, n, 0)
+    }
+
+    fn assign(&mut self, place: u32, value: u32) {
+        self.commands.extend([place, value]);
+    }
+
+    /// `p = (int*)malloc(n)`
+    fn p_gets_block(mut self, n: u32) -> Routine {
+        let place = self.variable();
+        let block = self.malloc(n);
+        let block = self.cast(block, POINTER);
+        self.assign(place, block);
+        self
+    }
+
+    /// `*(p + n) = word`
+    fn store(mut self, n: u32, word: u32) -> Routine {
+        let pointer = self.p_plus(n);
+        let place = self.deref(pointer);
+        let value = self.number(word);
+        self.assign(place, value);
+        self
+    }
+
+    fn run(&self) -> Ran {
+        let mut table = vec![0, 0, 1, INT, 1, POINTER, self.nodes.len() as u32 / 3];
+        table.extend(&self.nodes);
+        table.push(self.commands.len() as u32 / 2);
+        table.extend(&self.commands);
+        Ran::new(&table, &[0], 4)
+    }
+}
+
+fn m() -> Routine {
+    Routine::default().p_gets_block(2)
+}
+
+#[test]
+fn nothing_at_all() {
+    let ran = Ran::new(&[0; 6], &[], 1);
+    assert_eq!(ran.answer, done(1));
+    assert_eq!(ran.word(0), [0; 3]);
+}
+
+#[test]
+fn blocks() {
+    let ran = m().run();
+    assert_eq!((ran.answer, ran.word(1)), (done(4), [2, 2, 4]));
+    let ran = Routine::default().p_gets_block(3).run();
+    assert_eq!(ran.answer, no_room(0, 2));
+    let ran = Routine::default().p_gets_block(0).run();
+    assert_eq!((ran.answer, ran.word(1)), (done(2), [0, 0, 0]));
+}
+
+#[test]
+fn stores_in_and_out_of_bounds() {
+    let ran = m().store(1, 5).run();
+    assert_eq!((ran.answer, ran.values[3]), (done(4), 5));
+    assert_eq!(m().store(2, 5).run().answer, abort(1, 4));
+    assert_eq!(m().store(u32::MAX, 5).run().answer, abort(1, 4));
+}
+
+#[test]
+fn forged_pointer() {
+    let mut routine = m();
+    let place = routine.variable();
+    let two = routine.number(2);
+    let two = routine.cast(two, POINTER);
+    routine.assign(place, two);
+    assert_eq!(routine.store(0, 5).run().answer, abort(2, 4));
+}
+
+#[test]
+fn address_of_an_element_keeps_the_bounds() {
+    let mut routine = m();
+    let place = routine.variable();
+    let element = routine.p_plus(1);
+    let element = routine.deref(element);
+    let address = routine.node(7, element, 0);
+    routine.assign(place, address);
+    let ran = routine.store(u32::MAX, 7).run();
+    assert_eq!((ran.answer, ran.values[2]), (done(4), 7));
+}
+
+/// `*(int*)&p` needs a pointer to p's type: one more pointer entry.
+#[test]
+fn int_store_over_a_pointer_keeps_its_bounds() {
+    let mut routine = m();
+    let variable = routine.variable();
+    let address = routine.node(7, variable, 0);
+    let address = routine.cast(address, POINTER);
+    let place = routine.deref(address);
+    let three = routine.number(3);
+    routine.assign(place, three);
+    let routine = routine.store(0, 8);
+    let mut table = vec![0, 0, 2, INT, POINTER, 1, POINTER];
+    table.push(routine.nodes.len() as u32 / 3);
+    table.extend(&routine.nodes);
+    table.push(3);
+    table.extend(&routine.commands);
+    let ran = Ran::new(&table, &[0], 4);
+    assert_eq!((ran.answer, ran.values[3]), (done(4), 8));
+    assert_eq!(ran.word(1), [3, 2, 4]);
+}
+
+#[test]
+fn place_before_value() {
+    let mut routine = m();
+    let pointer = routine.p_plus(2);
+    let place = routine.deref(pointer);
+    let block = routine.malloc(9);
+    let value = routine.cast(block, INT);
+    routine.assign(place, value);
+    assert_eq!(routine.run().answer, abort(1, 4));
+}
+
+#[test]
+fn blocks_of_an_aborted_command_stay() {
+    let mut routine = Routine::default();
+    let block = routine.malloc(1);
+    let block = routine.cast(block, POINTER);
+    let one = routine.number(1);
+    let past = routine.node(5, block, one);
+    let place = routine.deref(past);
+    let zero = routine.number(0);
+    routine.assign(place, zero);
+    assert_eq!(routine.run().answer, abort(0, 3));
+}
+
+/// "Routine A's record type over a block of two words: the snapshot passes,
+/// the queue aborts."
+#[test]
+fn record_over_a_short_block() {
+    let head = "1 2 | 2 0 2 0 2 | 2 65536 0 | 2 2 3 |";
+    let block = "1 0 0 4 2 0 10 1 0 8 2 2";
+    for (field, answer) in [(0, done(5)), (1, abort(1, 5))] {
+        let text = format!("{head} 9 {block} 1 1 0 1 0 0 6 5 0 3 6 {field} 7 7 0 | 2 0 3 4 8");
+        let ran = Ran::new(&words(&text), &[0, 0], 8);
+        assert_eq!(ran.answer, answer);
+        if field == 0 {
+            assert_eq!(ran.word(2), [3, 3, 5]);
+        }
+    }
+}
+
+#[test]
+fn limits() {
+    let records = |n: usize| {
+        let mut table = vec![n as u32];
+        table.extend(vec![1; n]);
+        table.push(n as u32);
+        table.extend([0, 1].repeat(n));
+        table.extend([0; 4]);
+        check(&table)
+    };
+    assert_eq!(records(32), Verdict::Pass);
+    let too_many = Refusal {
+        number: 3,
+        place: 0,
+    };
+    assert_eq!(records(33), Verdict::Refused(too_many));
+    let field = |words| check(&[1, 1, 1, 0, words, 0, 0, 0, 0]);
+    assert_eq!(field(4_096), Verdict::Pass);
+    let too_long = Refusal {
+        number: 4,
+        place: 4,
+    };
+    assert_eq!(field(4_097), Verdict::Refused(too_long));
+}
+
+/// "Adding the size in 32 bits, so that a value near the top passes."
+#[test]
+fn sums_of_checks_are_exact() {
+    let head = "1 2 | 2 0 4 0 4096 | 2 65536 0 | 1 2 |";
+    let block = "1 0 0 4 4 0 10 1 0 8 2 2";
+    // ((record*)p + n)->field, p at 2 with bounds [2, 6)
+    for (n, field) in [(u32::MAX, 0), (u32::MAX - 2, 0), (u32::MAX - 5, 1)] {
+        let text =
+            format!("{head} 10 {block} 1 0 0 6 4 0 4 {n} 0 5 5 6 3 7 {field} 4 1 0 | 2 0 3 8 9");
+        let ran = Ran::new(&words(&text), &[0], 8);
+        assert_eq!(ran.answer, abort(1, 6));
+    }
+}
