@@ -14,7 +14,7 @@ use Rattle.layout.specs.declared.Verdict as answer
 use Rattle.layout.specs.declared.Verdict.the-variants as the
 use Rattle.layout.proofs.Laws.{or-else-pass}
 use Rattle.nodes.specs.Nodes.{elaborated, typed-by, kind-fault, typed-kind, node-typed, field-found}
-use Rattle.nodes.specs.Contracts.{Placed, Reached}
+use Rattle.nodes.specs.Promises.{Placed, Reached}
 use Rattle.nodes.specs.declared.Elaborated.{Elaborated}
 use Rattle.nodes.specs.declared.Typed.{Typed}
 use Rattle.nodes.specs.declared.Typed.the-variants.{Is, Refused}

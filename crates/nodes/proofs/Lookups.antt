@@ -17,7 +17,7 @@ use Rattle.layout.specs.Types.{words-before, mark-below}
 use Rattle.layout.proofs.Laws.{sum-more}
 use Rattle.layout.proofs.Types.{first-≤}
 use Rattle.nodes.specs.Nodes.{with-code, code, typed-by, field-found}
-use Rattle.nodes.specs.Contracts.{Target-at, Sized}
+use Rattle.nodes.specs.Promises.{Target-at, Sized}
 use Rattle.nodes.specs.declared.Typed.the-variants.{Is, Refused}
 
 -- The entries of a section stand in the table.

@@ -10,7 +10,7 @@ use Rattle.semantics.specs.Table.{item-place, item, unknown, kind-of, Sort, pla
 use Rattle.semantics.specs.Check.{_or-else_, require, each, same-sort, is-child}
 use Rattle.semantics.proofs.Passed.{require-passes, each-passes}
 use Rattle.nodes.specs.Nodes.{sort-number}
-use Rattle.nodes.specs.Contracts.{Nodes-to}
+use Rattle.nodes.specs.Promises.{Nodes-to}
 
 -- ---- sorts
 

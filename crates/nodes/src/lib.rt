@@ -12,7 +12,7 @@ ghost use Rattle.semantics.specs.Check.{require, _or-else_, is-child};
 ghost use Rattle.layout.specs.Layout.{verdict-of, Stands};
 ghost use Rattle.layout.specs.Types.{Marks};
 ghost use Rattle.nodes.specs.Nodes.{sort-number, typed-kind, node-typed, field-found};
-ghost use Rattle.nodes.specs.Contracts.{Nodes-to, Placed, Reached, Target-at, Sized, Sizes, Targets, Lookups};
+ghost use Rattle.nodes.specs.Promises.{Nodes-to, Placed, Reached, Target-at, Sized, Sizes, Targets, Lookups};
 use layout::Section;
 use layout::Table;
 use layout::Verdict;
