@@ -6,9 +6,8 @@ use mathlib.Core.List.{[], _∷_}
 use native.Mathlib.Omega.{arith}
 use borrow.Author.Tests.{eq-eqb, ne-eqb}
 use lib.Dec.{eqb}
-use lib.ListN.{length}
 use Rattle.semantics.specs.Words.{Words, word, sum-below}
-use Rattle.semantics.specs.Table.{commands, nodes, count, item-place, item, Sort, place, value, node-type}
+use Rattle.semantics.specs.Table.{count, Sort, place, value, node-type}
 use Rattle.semantics.specs.Check.{Verdict, passes, refused, _or-else_, require, each, is-child, command-place, command-value, command-fault, occurrences, uses, use-fault}
 use Rattle.semantics.proofs.Passed.{or-else-passes, require-passes}
 use Rattle.semantics.proofs.Trees.{is-child-true}
@@ -84,15 +83,15 @@ few-more {t} {c = c} h i = omega (arith, h .more i, uses-few c i (λ (k : ℕ). 
 
 -- ---- uses
 
-each-passes : (f : ℕ → Verdict) (n : ℕ) → ((k : ℕ) → k < n → f k ≡ passes) → each n f ≡ passes
+all-pass : (f : ℕ → Verdict) (n : ℕ) → ((k : ℕ) → k < n → f k ≡ passes) → each n f ≡ passes
 unfolding each
-each-passes f zero h = refl
-each-passes f (suc n) h = or-else-pass (each n f) (f n) (each-passes f n (λ k less. h k (omega arith))) ∙ h n (omega arith)
+all-pass f zero h = refl
+all-pass f (suc n) h = or-else-pass (each n f) (f n) (all-pass f n (λ k less. h k (omega arith))) ∙ h n (omega arith)
 
 module _ {t used : Words} (all : All-counted t used) where
   pub all-once : (n : ℕ) → ((k : ℕ) → k < n → word used k ≡ 1) → each n (use-fault t) ≡ passes
   unfolding use-fault
-  all-once n h = each-passes (use-fault t) n (λ k less. require-holds (eqb (uses t k) 1) 9 _ (eq-eqb (uses t k) 1 (sym (all .all k) ∙ h k less)))
+  all-once n h = all-pass (use-fault t) n (λ k less. require-holds (eqb (uses t k) 1) 9 _ (eq-eqb (uses t k) 1 (sym (all .all k) ∙ h k less)))
 
   pub not-once : {l : Section} → Stands t 4 l → (n : ℕ) → (word used n ≡ 1 → ⊥) → use-fault t n ≡ refused 9 (l .at + 3 * n)
   unfolding use-fault

@@ -1,5 +1,5 @@
 -- Laws of the loop over nodes.
-use Prim.Native.Nat.{ℕ, zero, suc, _+_, _*_, _≤_, _<_}
+use Prim.Native.Nat.{ℕ, _+_, _*_, _≤_, _<_}
 use mathlib.Core.Bool.{not}
 use mathlib.Core.Path.{_≡_, refl, sym, _∙_, ap}
 use mathlib.Core.List.{_++_}
@@ -17,7 +17,7 @@ use Rattle.layout.specs.Layout.{Stands}
 use Rattle.layout.specs.declared.Section.{Section}
 use Rattle.layout.proofs.Laws.{require-holds, sum-more, item-at}
 use Rattle.nodes.specs.Nodes.{elaborated, typed-by, kind-fault, node-typed}
-use Rattle.nodes.specs.Promises.{Nodes-to, Reached}
+use Rattle.nodes.specs.Promises.{Reached}
 use Rattle.nodes.specs.declared.Elaborated.{Elaborated}
 use Rattle.nodes.specs.declared.Typed.{Typed}
 use Rattle.nodes.specs.declared.Typed.the-variants.{Is, Refused}
@@ -100,20 +100,19 @@ named-children size a b = refl
 named-children malloc a b = refl
 named-children unknown a b = refl
 
--- Of a node with so many children, those among a and b are below n, and there are at most two.
+-- Of a node with so many children, those among a and b are below n.
 record Below (n children a b : ℕ) : Type 0 where
   first : (children ≡ 0 → ⊥) → a < n
   second : children ≡ 2 → b < n
-  most : children ≤ 2
 
 none-below : {n a b : ℕ} → Below n 0 a b
-none-below = record { first = λ z. absurd (z refl); second = λ z. absurd (omega arith); most = omega arith }
+none-below = record { first = λ z. absurd (z refl); second = λ z. absurd (omega arith) }
 
 one-below : {n a b : ℕ} → a < n → Below n 1 a b
-one-below h = record { first = λ z. h; second = λ z. absurd (omega arith); most = omega arith }
+one-below h = record { first = λ z. h; second = λ z. absurd (omega arith) }
 
 two-below : {n a b : ℕ} → a < n → b < n → Below n 2 a b
-two-below h k = record { first = λ z. h; second = λ z. k; most = omega arith }
+two-below h k = record { first = λ z. h; second = λ z. k }
 
 child-below : (t : Words) (s : Sort) (n x p : ℕ) → require (is-child t s n x) 7 p ≡ passes → x < n
 child-below t s n x p e = is-child-true t s n x (require-passes (is-child t s n x) 7 p e) .0

@@ -1,11 +1,10 @@
 -- Laws of storing a node.
 use Prim.Native.Nat.{ℕ, _+_, _*_, _≤_, _<_}
-use mathlib.Core.Path.{_≡_, sym, _∙_, ap}
+use mathlib.Core.Path.{_≡_, _∙_, ap}
 use native.Mathlib.Omega.{arith}
 use lib.ListN.{length, set, length-set}
 use lib.Seq.{getD-set-same, getD-set-other}
 use Rattle.semantics.specs.Words.{Words, word}
-use Rattle.evaluator.specs.Code.{part}
 use Rattle.nodes.specs.declared.Elaborated.{Elaborated}
 use Rattle.table.specs.Promises.{Stored}
 

@@ -1,13 +1,13 @@
 -- A node in the code has the tree of the table's node.
 use Prim.Native.Nat.{ℕ, zero, suc, _+_, _<_}
 use mathlib.Core.Bool.{Bool, true, false, _&&_}
-use mathlib.Core.Path.{_≡_, refl, sym, _∙_, ap}
-use mathlib.Core.List.{List, [], _∷_, _++_}
+use mathlib.Core.Path.{_≡_, refl, _∙_, ap}
+use mathlib.Core.List.{List}
 use native.Mathlib.Omega.{arith}
 use Rattle.semantics.specs.Words.{Words, if_then_else_, grow}
-use Rattle.semantics.specs.Table.{nodes, is-pointer, Kind, variable, deref, field, constant, sum, read, address, cast, size, malloc, unknown, node-kind, node-a, node-b, type-by-kind, type-rule, types-below, node-type}
-use Rattle.semantics.specs.Syntax.{Tree, senseless, value, Cast, as-value, tree-by-kind, tree-rule, trees-below, tree-of}
-use Rattle.evaluator.specs.Code.{part, tree-by-code, code-rule, code-trees, code-tree}
+use Rattle.semantics.specs.Table.{is-pointer, Kind, variable, deref, field, constant, sum, read, address, cast, size, malloc, unknown, node-kind, node-a, node-b, type-by-kind, type-rule, types-below, node-type}
+use Rattle.semantics.specs.Syntax.{Tree, tree-by-kind, tree-rule, trees-below, tree-of}
+use Rattle.evaluator.specs.Code.{tree-by-code, code-rule, code-trees, code-tree}
 use Rattle.nodes.specs.Nodes.{elaborated}
 use Rattle.table.specs.Promises.{Coded}
 

@@ -1,13 +1,13 @@
 -- Laws of counting uses.
 use Prim.Native.Nat.{ℕ, zero, suc, _+_, _*_, _≤_, _<_}
 use mathlib.Core.Bool.{Bool, true, false}
-use mathlib.Core.Path.{_≡_, refl, sym, _∙_}
-use mathlib.Core.List.{[], _∷_, _++_}
+use mathlib.Core.Path.{_≡_, sym, _∙_}
+use mathlib.Core.List.{[], _∷_}
 use native.Mathlib.Omega.{arith}
 use native.Mathlib.Decide.{ℕ-discrete}
 use borrow.Author.Tests.{eq-eqb, ne-eqb}
 use lib.Dec.{eqb}
-use lib.ListN.{length, set, replicate}
+use lib.ListN.{length, set}
 use lib.Seq.{getD-set-same, getD-set-other}
 use Rattle.semantics.specs.Words.{Words, word, if_then_else_, sum-below}
 use Rattle.semantics.specs.Check.{occurrences}
@@ -55,8 +55,3 @@ pub uses-few : (n i : ℕ) (f : ℕ → Words) → ((m : ℕ) → length (f m) �
 unfolding sum-below
 uses-few zero i f h = omega arith
 uses-few (suc n) i f h = omega (arith, uses-few n i f h, occurrences-few i (f n), h n)
-
-pub zeros : (n k : ℕ) → word (replicate n 0) k ≡ 0
-zeros zero k = refl
-zeros (suc n) zero = refl
-zeros (suc n) (suc k) = zeros n k

@@ -1,8 +1,8 @@
 -- Laws of the whole check, whose parts are gone through in turn.
 use Prim.Native.Nat.{ℕ}
-use mathlib.Core.Path.{_≡_, refl, sym, _∙_, ap}
+use mathlib.Core.Path.{_≡_, _∙_}
 use native.Mathlib.Omega.{arith}
-use Rattle.semantics.specs.Words.{Words, word, sum-below}
+use Rattle.semantics.specs.Words.{Words}
 use Rattle.semantics.specs.Table.{records, fields, pointers, variables, nodes, commands, count}
 use Rattle.semantics.specs.Check.{Verdict, passes, refused, _or-else_, each, section-fault, words-over, record-fault, field-sum-fault, field-fault, pointer-fault, variable-fault, node-fault, command-fault, use-fault, uses, check}
 use Rattle.semantics.proofs.Passed.{or-else-passes, each-passes, Types-passed}
@@ -11,13 +11,9 @@ use Rattle.layout.specs.Types.{types-fault}
 use Rattle.layout.specs.declared.Parsed.{Parsed}
 use Rattle.layout.specs.declared.Parsed.the-variants.{Refused}
 use Rattle.layout.proofs.Laws.{or-else-pass, or-else-refuse}
+use Rattle.nodes.proofs.Answers.{or-else-assoc}
 use Rattle.table.specs.Promises.{Elaborated-to, Commands-counted, All-counted, Elaborates}
 use Rattle.table.proofs.Trees.{same-tree}
-
-or-else-assoc : (u v w : Verdict) → (u or-else v) or-else w ≡ u or-else (v or-else w)
-unfolding _or-else_
-or-else-assoc passes v w = refl
-or-else-assoc (refused n p) v w = refl
 
 abbrev pub sections : Words → Verdict
 sections t = each 6 (section-fault t) or-else words-over t

@@ -1,11 +1,11 @@
 -- What the functions of this crate require and promise.
-use Prim.Native.Nat.{ℕ, _+_, _<_, _≤_}
+use Prim.Native.Nat.{ℕ, _+_, _<_}
 use mathlib.Core.Path.{_≡_}
 use mathlib.Core.List.{[], _∷_}
 use lib.Dec.{eqb}
 use lib.ListN.{length}
 use Rattle.semantics.specs.Words.{Words, word, if_then_else_, sum-below}
-use Rattle.semantics.specs.Table.{nodes, commands, count, item, Sort, place, value, node-kind, node-a, node-b, children, node-type}
+use Rattle.semantics.specs.Table.{nodes, count, item, place, value, node-kind, node-a, node-b, children, node-type}
 use Rattle.semantics.specs.Check.{Verdict, passes, _or-else_, require, is-child, occurrences, command-place, command-value, uses, check}
 use Rattle.semantics.specs.Syntax.{tree-of}
 use Rattle.evaluator.specs.Code.{part, code-tree}

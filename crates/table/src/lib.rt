@@ -165,8 +165,8 @@ fn check_uses(nodes: Section, uses: &[u32; 512]) -> Verdict
     ensures { λ r. ⌜ ((t : Words) → Stands t 4 nodes → All-counted t (now (uses .entry)) → verdict-of r ≡ each (count t 4) (use-fault t)) ⌝ }
 {
     let at = nodes.at;
-    let count = nodes.count;
-    for n in 0..count {
+    let end = nodes.count;
+    for n in 0..end {
         if uses[n] != 1 {
             return Verdict::Refused(9, at + 3 * n);
         }

@@ -2,8 +2,8 @@
 use borrow.Author.Needs.{needs}
 use native.Mathlib.Omega.{arith}
 use denote.Ref.{now}
-use Prim.Native.Nat.{_+_, _-_, _≤_, _<_}
-use mathlib.Core.Path.{_≡_, sym, _∙_}
+use Prim.Native.Nat.{_+_, _<_}
+use mathlib.Core.Path.{_≡_, _∙_}
 use Rattle.semantics.specs.Words.{Words, word}
 use Rattle.semantics.specs.Table.{field-total, field-offset}
 use Rattle.nodes.specs.Promises.{Sized}

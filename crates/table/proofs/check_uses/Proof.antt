@@ -1,8 +1,7 @@
 -- `table::check_uses` meets its contract. The loop's invariant: the nodes before n are used once.
-use borrow.Author.Needs.{needs}
 use native.Mathlib.Omega.{arith}
 use Prim.Native.Nat.{ℕ, _-_, _≤_, _<_}
-use mathlib.Core.Path.{_≡_, refl, sym, _∙_}
+use mathlib.Core.Path.{_≡_}
 use borrow.Author.Count.{below-none, below-more}
 use Rattle.semantics.specs.Words.{word}
 use Rattle.semantics.specs.Table.{count}

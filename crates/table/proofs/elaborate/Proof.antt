@@ -3,16 +3,15 @@ use borrow.Author.Needs.{needs}
 use native.Mathlib.Omega.{arith}
 use denote.Ref.{now}
 use mathlib.Core.Path.{_≡_, refl, sym, _∙_}
-use Rattle.semantics.specs.Words.{Words, word}
-use Rattle.semantics.specs.Table.{count}
+use Rattle.semantics.specs.Words.{Words}
 use Rattle.semantics.specs.Check.{passes, check}
 use Rattle.layout.specs.Layout.{parsed, Laid-out}
 use Rattle.layout.specs.Types.{types-fault}
 use Rattle.layout.specs.declared.Parsed.the-variants.{Is}
 use Rattle.layout.proofs.Sections.{parsed-passes, parsed-refused, laid-out}
+use Rattle.layout.proofs.Types.{zeros}
 use Rattle.nodes.proofs.Answers.{verdict-refuses, verdict-passes}
 use Rattle.table.specs.Promises.{All-counted}
-use Rattle.table.proofs.Uses.{zeros}
 use Rattle.table.proofs.Nodes.{few-uses}
 use Rattle.table.proofs.Whole.{sections, all-nodes, all-commands, all-uses, sections-refuse, types-refuse, nodes-refuse, commands-refuse, past-commands, types-passed, all-counted, refusal, parsed-layout, elaborates}
 use Rattle.table.proofs.elaborate.Statement.{statement}
