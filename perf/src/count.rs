@@ -1,0 +1,69 @@
+//! Instructions, counted by callgrind. Their number does not depend on what
+//! else the machine does.
+
+use crate::rows::Row;
+use crate::side::{Act, Costs, Side, ACTS, SIDES};
+use std::process::{Command, Stdio};
+
+/// Calls in the shorter of two runs, and how many the longer has more.
+pub struct Plan {
+    pub few: usize,
+    pub more: usize,
+}
+
+/// The C library clears long lists by one repeated instruction, which
+/// callgrind counts once a byte. This makes it use a loop of vector stores.
+const NO_REPEATED_STORES: [&str; 2] = [
+    "GLIBC_TUNABLES",
+    "glibc.cpu.x86_rep_stosb_threshold=1073741824",
+];
+
+/// Whether there is a valgrind to count with.
+pub fn available() -> bool {
+    Command::new("valgrind")
+        .arg("--version")
+        .stdout(Stdio::null())
+        .status()
+        .is_ok_and(|status| status.success())
+}
+
+pub fn measure(row: &Row, plan: &Plan) -> Result<Costs, String> {
+    let mut counts = Costs::default();
+    for side in SIDES {
+        for act in ACTS {
+            counts[side as usize][act as usize] = a_call(side, act, row, plan)?;
+        }
+    }
+    Ok(counts)
+}
+
+/// What the calls more cost more: the start of the program drops out. They go
+/// over each case equally often.
+fn a_call(side: Side, act: Act, row: &Row, plan: &Plan) -> Result<f64, String> {
+    let more = plan.more.next_multiple_of(row.cases.len());
+    let low = collected(side, act, row, plan.few)?;
+    let high = collected(side, act, row, plan.few + more)?;
+    Ok((high as f64 - low as f64) / more as f64)
+}
+
+/// The instructions of one run of this program that has only these calls.
+fn collected(side: Side, act: Act, row: &Row, calls: usize) -> Result<u64, String> {
+    let program = std::env::current_exe().map_err(|error| error.to_string())?;
+    let [tunable, setting] = NO_REPEATED_STORES;
+    let output = Command::new("valgrind")
+        .args(["--tool=callgrind", "--callgrind-out-file=/dev/null"])
+        .arg(program)
+        .args(["spin", side.name(), act.name(), &row.name])
+        .arg(calls.to_string())
+        .env(tunable, setting)
+        .output()
+        .map_err(|error| format!("valgrind: {error}"))?;
+    let text = String::from_utf8_lossy(&output.stderr);
+    let count = text
+        .lines()
+        .find_map(|line| line.split_once("Collected : "))
+        .and_then(|(_, count)| count.trim().parse().ok());
+    // A crash is counted too, but says nothing of the calls.
+    let count = count.filter(|_| output.status.success());
+    count.ok_or_else(|| format!("callgrind on row '{}': {text}", row.name))
+}

@@ -1,0 +1,144 @@
+//! The rows of the report: each one routine, or several called in turn.
+
+use crate::routine::Routine;
+use crate::workload;
+
+/// One call's table and inputs.
+pub struct Case {
+    pub table: Vec<u32>,
+    pub inputs: Vec<u32>,
+}
+
+pub struct Row {
+    /// The part of the report that the row belongs to.
+    pub group: &'static str,
+    pub name: String,
+    /// The length of each of the three lists.
+    pub memory: usize,
+    pub cases: Vec<Case>,
+    // Means over the cases.
+    pub nodes: f64,
+    pub commands: f64,
+    pub words: f64,
+}
+
+/// A row to be built. A run under callgrind has one row and builds no other.
+pub struct Plan {
+    group: &'static str,
+    name: String,
+    memory: usize,
+    /// Whether a quick run has it too.
+    quick: bool,
+    routines: Box<dyn Fn() -> Vec<Routine>>,
+}
+
+const QUICK: [&str; 8] = [
+    "small",
+    "middle",
+    "largest",
+    "deep casts",
+    "deep places",
+    "dereferences",
+    "fields",
+    "allocations",
+];
+
+/// All rows, or those of a quick run.
+pub fn all(quick: bool) -> Vec<Row> {
+    let plans = plans().into_iter();
+    let plans = plans.filter(|plan| plan.quick || !quick);
+    plans.map(Plan::build).collect()
+}
+
+pub fn named(name: &str) -> Option<Row> {
+    let plan = plans().into_iter().find(|plan| plan.name == name);
+    plan.map(Plan::build)
+}
+
+fn plans() -> Vec<Plan> {
+    let mut plans = shapes();
+    plans.extend(memory());
+    plans.extend(growth());
+    plans
+}
+
+fn shapes() -> Vec<Plan> {
+    use workload::*;
+    let plan = |name: &str, memory, routines: fn() -> Vec<Routine>| Plan {
+        group: "shape",
+        name: name.into(),
+        memory,
+        quick: QUICK.contains(&name),
+        routines: Box::new(routines),
+    };
+    vec![
+        plan("empty", 1, || vec![Routine::default()]),
+        plan("small", 16, || vec![small()]),
+        plan("middle", 256, || vec![declared(16)]),
+        plan("large", 512, || vec![declared(32)]),
+        plan("largest", 128, || vec![largest()]),
+        plan("deep casts", 16, || vec![deep_casts()]),
+        plan("deep places", 16, || vec![deep_places()]),
+        plan("deep sums, left", 16, || vec![deep_sums_left()]),
+        plan("deep sums, right", 16, || vec![deep_sums_right()]),
+        plan("dereferences", 16, || vec![dereferences()]),
+        plan("pointer chain", 16, || vec![pointer_chain()]),
+        plan("fields", 256, || vec![fields()]),
+        plan("allocations", 256, || vec![allocations()]),
+        plan("mixed, 500 tables", 128, || mixed(500)),
+    ]
+}
+
+/// One routine of 64 nodes in ever longer lists.
+fn memory() -> Vec<Plan> {
+    let plan = |length: usize| Plan {
+        group: "memory",
+        name: format!("memory {length}"),
+        memory: length,
+        quick: matches!(length, 64 | 65_536),
+        routines: Box::new(|| vec![workload::family(4)]),
+    };
+    [64, 256, 1_024, 4_096, 16_384, 65_536].map(plan).into()
+}
+
+/// Ever longer routines of one family in lists of one length.
+fn growth() -> Vec<Plan> {
+    let plan = |groups: usize| Plan {
+        group: "growth",
+        name: format!("growth {}", 16 * groups),
+        memory: 256,
+        quick: matches!(groups, 1 | 32),
+        routines: Box::new(move || vec![workload::family(groups)]),
+    };
+    [1, 2, 4, 8, 16, 32].map(plan).into()
+}
+
+impl Plan {
+    fn build(self) -> Row {
+        let routines = (self.routines)();
+        let cases: Vec<Case> = routines.iter().map(Case::of).collect();
+        Row {
+            group: self.group,
+            name: self.name,
+            memory: self.memory,
+            nodes: mean(routines.iter().map(|routine| routine.nodes.len())),
+            commands: mean(routines.iter().map(|routine| routine.commands.len())),
+            words: mean(cases.iter().map(|case| case.table.len())),
+            cases,
+        }
+    }
+}
+
+impl Case {
+    fn of(routine: &Routine) -> Case {
+        Case {
+            table: routine.table(),
+            inputs: routine.inputs(),
+        }
+    }
+}
+
+fn mean(numbers: impl ExactSizeIterator<Item = usize>) -> f64 {
+    let count = numbers.len();
+    numbers.sum::<usize>() as f64 / count as f64
+}

@@ -1,0 +1,152 @@
+//! The two sides, and the loops that are measured. Both sides get the same
+//! tables and the same lists, one after the other.
+
+use crate::library;
+use crate::rows::{Case, Row};
+use second::machine;
+use std::hint::black_box;
+
+#[derive(Clone, Copy, PartialEq, Eq)]
+pub enum Side {
+    Library,
+    Second,
+}
+
+#[derive(Clone, Copy, PartialEq, Eq)]
+pub enum Act {
+    Check,
+    Call,
+}
+
+pub const SIDES: [Side; 2] = [Side::Library, Side::Second];
+pub const ACTS: [Act; 2] = [Act::Check, Act::Call];
+
+/// Costs a call, by side, then by act.
+pub type Costs = [[f64; 2]; 2];
+
+/// What the report tells apart in a call.
+#[derive(Clone, Copy, PartialEq, Eq)]
+pub enum Part {
+    Check,
+    Run,
+    Call,
+}
+
+pub const PARTS: [Part; 3] = [Part::Check, Part::Run, Part::Call];
+
+impl Part {
+    pub fn name(self) -> &'static str {
+        match self {
+            Part::Check => "check",
+            Part::Run => "run",
+            Part::Call => "call",
+        }
+    }
+
+    /// The library's cost and the second's. The run alone is the whole call
+    /// less the check, for both sides alike.
+    pub fn of(self, costs: Costs) -> [f64; 2] {
+        costs.map(|[check, call]| match self {
+            Part::Check => check,
+            Part::Run => call - check,
+            Part::Call => call,
+        })
+    }
+}
+
+impl Side {
+    pub fn name(self) -> &'static str {
+        match self {
+            Side::Library => "library",
+            Side::Second => "second",
+        }
+    }
+}
+
+impl Act {
+    pub fn name(self) -> &'static str {
+        match self {
+            Act::Check => "check",
+            Act::Call => "call",
+        }
+    }
+}
+
+/// The lent memory. A call clears it itself.
+#[derive(PartialEq, Eq)]
+pub struct Lists {
+    pub values: Vec<u32>,
+    pub bases: Vec<u32>,
+    pub ends: Vec<u32>,
+}
+
+impl Lists {
+    pub fn new(length: usize, word: u32) -> Lists {
+        Lists {
+            values: vec![word; length],
+            bases: vec![word; length],
+            ends: vec![word; length],
+        }
+    }
+}
+
+pub fn check(side: Side, case: &Case) -> library::Verdict {
+    match side {
+        Side::Library => library::check(&case.table),
+        Side::Second => second_check(&case.table).into(),
+    }
+}
+
+pub fn call(side: Side, case: &Case, lists: &mut Lists) -> library::Answer {
+    match side {
+        Side::Library => library_call(case, lists),
+        Side::Second => second_call(case, lists).into(),
+    }
+}
+
+/// The act `calls` times, over the row's cases in turn.
+pub fn repeat(side: Side, act: Act, row: &Row, lists: &mut Lists, calls: usize) {
+    match (side, act) {
+        (Side::Library, Act::Check) => each(row, calls, |case| library::check(&case.table)),
+        (Side::Second, Act::Check) => each(row, calls, |case| second_check(&case.table)),
+        (Side::Library, Act::Call) => each(row, calls, |case| library_call(case, lists)),
+        (Side::Second, Act::Call) => each(row, calls, |case| second_call(case, lists)),
+    }
+}
+
+#[inline(always)]
+fn each<T>(row: &Row, calls: usize, mut act: impl FnMut(&Case) -> T) {
+    for case in row.cases.iter().cycle().take(calls) {
+        black_box(act(black_box(case)));
+    }
+}
+
+#[inline(always)]
+fn library_call(case: &Case, lists: &mut Lists) -> library::Answer {
+    library::run(
+        &case.table,
+        &case.inputs,
+        &mut lists.values,
+        &mut lists.bases,
+        &mut lists.ends,
+    )
+}
+
+// The second is a Rust crate and could melt into the loop, which a library in
+// an archive can't: these two keep it a call.
+
+#[inline(never)]
+fn second_check(table: &[u32]) -> machine::Verdict {
+    machine::check(table)
+}
+
+#[inline(never)]
+fn second_call(case: &Case, lists: &mut Lists) -> machine::Answer {
+    machine::run(
+        &case.table,
+        &case.inputs,
+        &mut lists.values,
+        &mut lists.bases,
+        &mut lists.ends,
+    )
+}
