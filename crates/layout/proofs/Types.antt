@@ -214,7 +214,7 @@ module _ (t : Words) (few-records : count t 0 ≤ 32) (few-pointers : count t 2 
       go x m (no q) =
           getD-set-other entry k (slot x) v 0 (λ z. q (slot-injective x y m known (z ∙ at))) ∙ before .mark-is x m ∙ sym (mark-old t i x (λ z. q (sym z ∙ e)))
 
-zeros : (n k : ℕ) → word (replicate n 0) k ≡ 0
+pub zeros : (n k : ℕ) → word (replicate n 0) k ≡ 0
 zeros zero k = refl
 zeros (suc n) zero = refl
 zeros (suc n) (suc k) = zeros n k

@@ -7,18 +7,37 @@ use lib.ListN.{length, replicate, length-replicate}
 use lib.Seq.{sets, length-sets}
 use Rattle.semantics.specs.Words.{Words}
 use Rattle.semantics.specs.Table.{variables, commands, count}
-use Rattle.semantics.specs.Check.{passes, refused, check, arguments-fault, call-fault}
+use Rattle.semantics.specs.Check.{Verdict, passes, refused, check, arguments-fault, call-fault}
 use Rattle.semantics.specs.Run.{begin, run, call}
 use Rattle.semantics.proofs.Passed.{Passed, passed, section-ok, section-end}
 use Rattle.semantics.proofs.Safety.{Begun, begun, equally-long, begin-inv}
 use Rattle.evaluator.specs.Result.{state-of}
-use Rattle.layout.specs.Layout.{section-of, layout, Stands}
-use Rattle.layout.proofs.Laws.{or-else-pass}
+use Rattle.layout.specs.Layout.{section-of, layout, layout-by, Stands}
+use Rattle.layout.proofs.Laws.{or-else-pass, or-else-refuse}
 use Rattle.layout.specs.declared.Table.{Table}
+use Rattle.layout.specs.declared.Parsed.the-variants as parsed
 use Rattle.machine.specs.Command.{lists}
 use Rattle.machine.specs.Run.{Is, Program, Executable, Executed}
 use Rattle.machine.specs.declared.Answer.{Answer}
 use Rattle.machine.specs.declared.Answer.the-variants.{Refused}
+
+-- ---- what the check answered
+
+pub layout-passes : (t : Words) (v : Verdict) {l : Table} → layout-by t v ≡ parsed.Is l → (v ≡ passes) × (l ≡ layout t)
+layout-passes t passes e = (refl, sym (cc))
+layout-passes t (refused n p) e = absurd (let z : _≡_ {A = ℕ} 0 1 = cc in omega arith)
+
+pub layout-refused : (t : Words) (v : Verdict) {n p : ℕ} → layout-by t v ≡ parsed.Refused n p → refused n p ≡ v
+layout-refused t passes e = absurd (let z : _≡_ {A = ℕ} 0 1 = cc in omega arith)
+layout-refused t (refused m q) e = cc
+
+-- A table that is refused is a call that is refused.
+pub table-refused : (t inputs vs bs es : Words) {n p : ℕ} → refused n p ≡ check t → Is (call t inputs vs bs es) (Refused n p) vs bs es
+unfolding call call-fault
+table-refused t inputs vs bs es e =
+    rw (or-else-refuse (check t) (arguments-fault t inputs (length vs) (length bs) (length es)) (sym e)) (record { answer = refl; values = refl; bases = refl; ends = refl })
+
+-- ---- a table that passed
 
 stands : {t : Words} → Passed t → (s : ℕ) → s < 6 → Stands t s (section-of t s)
 stands {t} ok s h =

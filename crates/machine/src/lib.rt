@@ -8,11 +8,13 @@ ghost use lib.Dec.{leb, ltb, eqb};
 ghost use lib.Seq.{sets};
 ghost use Rattle.evaluator.specs.Result.{state-of};
 ghost use Rattle.semantics.specs.Table.{count};
-ghost use Rattle.semantics.specs.Check.{each, input-fault, arguments-fault};
+ghost use Rattle.semantics.specs.Safety.{Spatially-safe};
+ghost use Rattle.semantics.specs.Check.{check, each, input-fault, arguments-fault};
 ghost use Rattle.semantics.specs.Run.{call};
 ghost use Rattle.layout.specs.Layout.{layout, verdict-of, Stands};
 ghost use Rattle.machine.specs.Run.{Is, Program, Executable, Executed};
 ghost use Rattle.machine.specs.Command.{lists, Command-ready, Evaluated, Stored, Command-answered};
+use layout::Parsed;
 use layout::Section;
 use layout::Table;
 use layout::Verdict;
@@ -291,4 +293,35 @@ fn run_checked(
     let total = narrow(commands.count);
     let unused = narrow(variables.count) + 1;
     execute(t, at, total, code, types, unused, values, bases, ends)
+}
+
+// Whether a table passes, or the number and place of its refusal. Any words, any length.
+pub fn check(t: &[u32]) -> Verdict
+    ensures { λ r. ⌜ verdict-of r ≡ check (now (t .entry)) ⌝ }
+{
+    let mut code = [0u32; 2048];
+    let mut types = [0u32; 512];
+    match table::elaborate(t, &mut code, &mut types) {
+        Parsed::Is(_) => Verdict::Passes,
+        Parsed::Refused(n, p) => Verdict::Refused(n, p),
+    }
+}
+
+// Checks and runs a table. A refused call changes no word of the lists.
+pub fn run(
+    t: &[u32],
+    inputs: &[u32],
+    values: &mut [u32],
+    bases: &mut [u32],
+    ends: &mut [u32],
+) -> Answer
+    ensures called { λ r. ⌜ Is (call (now (t .entry)) (now (inputs .entry)) (now (values .entry)) (now (bases .entry)) (now (ends .entry))) r (now (values .exit)) (now (bases .exit)) (now (ends .exit)) ⌝ }
+    ensures safe { λ r. ⌜ Spatially-safe (now (t .entry)) (now (inputs .entry)) (now (values .entry)) (now (bases .entry)) (now (ends .entry)) ⌝ }
+{
+    let mut code = [0u32; 2048];
+    let mut types = [0u32; 512];
+    match table::elaborate(t, &mut code, &mut types) {
+        Parsed::Is(l) => run_checked(t, l, &code, &types, inputs, values, bases, ends),
+        Parsed::Refused(n, p) => Answer::Refused(n, p),
+    }
 }

@@ -1,12 +1,12 @@
 -- Laws of the check of a node after its kind, and of its children.
-use Prim.Native.Nat.{ℕ, _+_, _*_, _≤_, _<_}
-use mathlib.Core.Bool.{Bool, true, false, not, _&&_}
+use Prim.Native.Nat.{ℕ, _+_, _<_}
+use mathlib.Core.Bool.{true, false}
 use mathlib.Core.Path.{_≡_, refl, sym, _∙_, ap}
 use native.Mathlib.Omega.{arith}
 use lib.Dec.{eqb}
 use Rattle.semantics.specs.Words.{Words, word}
-use Rattle.semantics.specs.Table.{item-place, known-type, Kind, field, unknown, Sort, neither, sort-of, operand-a, operand-b, types-below, node-type, field-total, pointed-record, points-to-record, kind-of}
-use Rattle.semantics.specs.Check.{Verdict, passes, refused, _or-else_, require, same-sort, is-child, operand-fault, types-fit, each, node-fault}
+use Rattle.semantics.specs.Table.{item-place, known-type, Kind, field, unknown, Sort, neither, sort-of, operand-a, operand-b, types-below, node-type, pointed-record, points-to-record, kind-of}
+use Rattle.semantics.specs.Check.{Verdict, passes, refused, _or-else_, require, same-sort, is-child, operand-fault, types-fit, node-fault}
 use Rattle.semantics.proofs.Passed.{or-else-passes, require-passes, each-passes}
 use Rattle.semantics.proofs.Trees.{is-child-true, types-at, types-known}
 use Rattle.layout.specs.Layout.{verdict-of}
@@ -14,13 +14,12 @@ use Rattle.layout.specs.declared.Verdict as answer
 use Rattle.layout.specs.declared.Verdict.the-variants as the
 use Rattle.layout.proofs.Laws.{or-else-pass}
 use Rattle.nodes.specs.Nodes.{elaborated, typed-by, kind-fault, typed-kind, node-typed, field-found}
-use Rattle.nodes.specs.Contracts.{Placed, Reached}
+use Rattle.nodes.specs.Promises.{Placed, Reached}
 use Rattle.nodes.specs.declared.Elaborated.{Elaborated}
-use Rattle.nodes.specs.declared.Typed.{Typed}
 use Rattle.nodes.specs.declared.Typed.the-variants.{Is, Refused}
 use Rattle.nodes.proofs.Sorts.{node-place}
 
-or-else-assoc : (u v w : Verdict) → u or-else (v or-else w) ≡ (u or-else v) or-else w
+pub or-else-assoc : (u v w : Verdict) → (u or-else v) or-else w ≡ u or-else (v or-else w)
 unfolding _or-else_
 or-else-assoc passes v w = refl
 or-else-assoc (refused n p) v w = refl
@@ -47,7 +46,7 @@ module _ {t : Words} {n place : ℕ} (at : Placed t n place) (k : Kind) (a b : �
       let p₀ : item-place t 4 n 0 ≡ place = sym (at .here) in
       let p₁ : item-place t 4 n 1 ≡ place + 1 = omega (arith, at .here) in
       let p₂ : item-place t 4 n 2 ≡ place + 2 = omega (arith, at .here) in
-      rw (p₀, p₁, p₂) (or-else-assoc _ _ _)
+      rw (p₀, p₁, p₂) (sym (or-else-assoc _ _ _))
 
   pub operand-refused : {r p : ℕ} → operands t n place k a b ≡ refused r p → Refused r p ≡ typed-kind t n k a b
   unfolding typed-kind _or-else_

@@ -1,14 +1,13 @@
 -- Laws of what is looked up: targets, fields, sizes and offsets.
 use Prim.Native.Nat.{ℕ, zero, suc, _+_, _*_, _-_, _≤_, _<_}
-use mathlib.Core.Bool.{Bool, true, false, _&&_}
-use mathlib.Core.Path.{_≡_, refl, sym, _∙_, ap}
+use mathlib.Core.Bool.{true, false}
+use mathlib.Core.Path.{_≡_, _∙_, ap}
 use mathlib.Core.Logic.{⊎-elim}
 use native.Mathlib.Omega.{arith}
-use native.Mathlib.Numerals.{add-one}
 use borrow.Author.Tests.{lt-ltb, le-ltb, le-leb, lt-leb, ltb-true, eqb-true}
 use lib.Dec.{leb, ltb, eqb}
 use lib.ListN.{length}
-use Rattle.semantics.specs.Words.{Words, word, if_then_else_, sum-below}
+use Rattle.semantics.specs.Words.{Words, word, sum-below}
 use Rattle.semantics.specs.Table.{entry-words, fields, count-place, count, item-place, item, is-pointer, entry-type, known-type, known-target, target, points-to-type, points-to-record, pointed-record, entry-below, field-total, first-field, field-type, field-offset, field-count, size-of}
 use Rattle.semantics.specs.Check.{field-sum-fault, require}
 use Rattle.semantics.proofs.Passed.{Types-passed, section-ok, require-passes, record-known}
@@ -16,8 +15,8 @@ use Rattle.semantics.proofs.Tests.{and-true, or-true}
 use Rattle.layout.specs.Types.{words-before, mark-below}
 use Rattle.layout.proofs.Laws.{sum-more}
 use Rattle.layout.proofs.Types.{first-≤}
-use Rattle.nodes.specs.Nodes.{with-code, code, typed-by, field-found}
-use Rattle.nodes.specs.Contracts.{Target-at, Sized}
+use Rattle.nodes.specs.Nodes.{with-code, code, field-found}
+use Rattle.nodes.specs.Promises.{Target-at, Sized}
 use Rattle.nodes.specs.declared.Typed.the-variants.{Is, Refused}
 
 -- The entries of a section stand in the table.

@@ -1,7 +1,7 @@
 -- Laws of kinds, their sorts, and children.
 use Prim.Native.Nat.{ℕ, _+_, _*_, _≤_, _<_}
-use mathlib.Core.Bool.{Bool, true, false}
-use mathlib.Core.Path.{_≡_, refl, sym, _∙_}
+use mathlib.Core.Bool.{Bool, false}
+use mathlib.Core.Path.{_≡_, refl}
 use native.Mathlib.Omega.{arith}
 use borrow.Author.Tests.{lt-ltb, le-ltb, eqb-true, ne-eqb}
 use lib.Dec.{ltb, eqb}
@@ -10,7 +10,7 @@ use Rattle.semantics.specs.Table.{item-place, item, unknown, kind-of, Sort, pla
 use Rattle.semantics.specs.Check.{_or-else_, require, each, same-sort, is-child}
 use Rattle.semantics.proofs.Passed.{require-passes, each-passes}
 use Rattle.nodes.specs.Nodes.{sort-number}
-use Rattle.nodes.specs.Contracts.{Nodes-to}
+use Rattle.nodes.specs.Promises.{Nodes-to}
 
 -- ---- sorts
 

@@ -1,3 +1,3 @@
 -- What the contracts of this crate cite.
 pub mod Nodes
-pub mod Contracts
+pub mod Promises

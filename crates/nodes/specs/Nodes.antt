@@ -4,7 +4,7 @@ use mathlib.Core.Bool.{not, _&&_}
 use mathlib.Core.List.{_++_}
 use lib.Dec.{ltb}
 use lib.ListN.{length}
-use Rattle.semantics.specs.Words.{Words, word, if_then_else_}
+use Rattle.semantics.specs.Words.{Words, if_then_else_}
 use Rattle.semantics.specs.Table.{nodes, item-place, is-pointer, pointed-record, field-total, field-type, field-offset, field-count, size-of, Kind, variable, deref, field, constant, sum, read, address, cast, size, malloc, unknown, Sort, place, value, neither, sort-of, operand-a, operand-b, child, type-by-kind, types-below, node-type}
 use Rattle.semantics.specs.Check.{Verdict, passes, refused, _or-else_, require, same-sort, operand-fault, types-fit}
 use Rattle.nodes.specs.declared.Elaborated.{Elaborated}

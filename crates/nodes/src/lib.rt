@@ -1,10 +1,10 @@
-// The check of one node, and what it finds: the type of the node and its words for the evaluator.
+// The check of one node, and what it finds: the node's type and its words for the evaluator.
 // Parameters: `records` and `pointers` are counts; `targets`, `fields` and `nodes` are the places of the first pointer, field and
-// node; `place` is that of node `n`, whose two other words are `a` and `b`.
+// node; `place` is that of node `n`, whose two other words are `a` and `b`. What is looked up, and where, says the crate layout.
 ghost use mathlib.Core.Path.{_≡_};
 ghost use mathlib.Core.Bool.{_&&_};
-ghost use Prim.Native.Nat.{ℕ, _+_, _*_, _<_, _≤_, _^_};
-ghost use lib.Dec.{eqb, ltb};
+ghost use Prim.Native.Nat.{ℕ, _+_, _<_, _≤_, _^_};
+ghost use lib.Dec.{eqb};
 ghost use lib.ListN.{length};
 ghost use Rattle.semantics.specs.Words.{Words, if_then_else_};
 ghost use Rattle.semantics.specs.Table.{count-place, count, is-pointer, target, size-of, Sort, sort-of, kind-of, deref, field, variable, constant, sum, read, address, cast, size, malloc};
@@ -12,12 +12,13 @@ ghost use Rattle.semantics.specs.Check.{require, _or-else_, is-child};
 ghost use Rattle.layout.specs.Layout.{verdict-of, Stands};
 ghost use Rattle.layout.specs.Types.{Marks};
 ghost use Rattle.nodes.specs.Nodes.{sort-number, typed-kind, node-typed, field-found};
-ghost use Rattle.nodes.specs.Contracts.{Nodes-to, Placed, Reached, Target-at, Sized, Sizes, Targets, Lookups};
+ghost use Rattle.nodes.specs.Promises.{Nodes-to, Placed, Reached, Target-at, Sized, Sizes, Targets, Lookups};
 use layout::Section;
 use layout::Table;
 use layout::Verdict;
 use layout::index;
 
+// Sorts of kinds.
 const NEITHER: u32 = 0;
 
 pub const PLACE: u32 = 1;
@@ -125,7 +126,8 @@ fn keeps(from: u32, to: u32) -> u32
     1
 }
 
-// The functions below check a node of one kind: its two other words (7 or 5), then its types (8).
+// The functions below check a node of one kind: its two other words (7 or 5), then its types (8). They are named as the rules
+// are: `deref` is document 01's follow, `malloc` its obtain.
 
 fn variable(t: &[u32], variables: Section, place: usize, a: u32, b: u32) -> Typed
     requires { ⌜ (Stands (now t) 3 variables) × (place + 3 ≤ length (now t)) ⌝ }
@@ -197,8 +199,9 @@ fn record_field(
     ensures { λ x. ⌜ x ≡ field-found (now (t .entry)) r b a place ⌝ }
 {
     let start = index(first[r]);
+    let end = index(first[r + 1]);
     let f = start + index(b);
-    if index(first[r + 1]) <= f {
+    if end <= f {
         return Typed::Refused(8, place);
     }
     let at = fields + 2 * f;
@@ -333,6 +336,7 @@ fn address(
         return Typed::Refused(r, p);
     }
     let ty = entry[layout::target_slot(types[index(a)])];
+    // No pointer entry has this target.
     if ty == 0 {
         return Typed::Refused(8, place);
     }
@@ -428,7 +432,7 @@ fn malloc(
     })
 }
 
-// Node n, of this kind.
+// Checks node n, of this kind. A test for 12 is not needed: there are too few nodes for a path of more than 512.
 pub fn check_node(
     t: &[u32],
     types: &[u32; 512],

@@ -6,10 +6,9 @@ use mathlib.Core.Path.{_≡_, refl, sym, _∙_}
 use Rattle.nodes.proofs.Lookups.{few-records, few-pointers, type-target, mark-entry}
 use Prim.Native.Nat.{_<_}
 use borrow.Author.Tests.{lt-ltb, le-ltb}
-use lib.Dec.{ltb}
 use Rattle.semantics.specs.Words.{word}
-use Rattle.semantics.specs.Table.{count, entry-below, node-type}
-use Rattle.layout.specs.Types.{slot, mark-below}
+use Rattle.semantics.specs.Table.{count, node-type}
+use Rattle.layout.specs.Types.{mark-below}
 use Rattle.layout.proofs.Types.{mark-none, mark-some, slot-below}
 use Rattle.semantics.specs.Table.{address, place}
 use Rattle.semantics.specs.Check.{passes}

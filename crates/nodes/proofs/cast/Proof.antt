@@ -6,10 +6,10 @@ use mathlib.Core.Path.{_≡_, refl, sym, _∙_}
 use borrow.Author.Tests.{not-true, not-false}
 use mathlib.Core.Bool.{true}
 use Rattle.semantics.specs.Table.{cast, value}
-use Rattle.semantics.specs.Check.{passes, is-child}
+use Rattle.semantics.specs.Check.{is-child}
 use Rattle.layout.proofs.Laws.{require-holds, require-refuses, or-else-pass, or-else-refuse}
 use Rattle.nodes.proofs.Lookups.{few-pointers}
-use Rattle.nodes.proofs.Answers.{both-pass, operands, operand-refused, elaborates, placed, Child, child-of}
+use Rattle.nodes.proofs.Answers.{both-pass, operand-refused, elaborates, placed, Child, child-of}
 use Rattle.nodes.proofs.cast.Statement.{statement}
 use Rattle.nodes.proofs.cast.Tie as tie
 

@@ -4,7 +4,7 @@ use native.Mathlib.Omega.{arith}
 use denote.Ref.{now}
 use mathlib.Core.Path.{refl, _∙_}
 use Rattle.semantics.specs.Table.{kind-of, variable, deref, field, constant, sum, read, address, cast, size, malloc}
-use Rattle.nodes.specs.Contracts.{Sized}
+use Rattle.nodes.specs.Promises.{Sized}
 use Rattle.nodes.proofs.Sorts.{unknown-kind}
 use Rattle.nodes.proofs.Answers.{kind-known, kind-unknown, placed}
 use Rattle.nodes.proofs.check_node.Statement.{statement}

@@ -2,7 +2,7 @@
 use borrow.Author.Needs.{needs}
 use native.Mathlib.Omega.{arith}
 use denote.Ref.{now}
-use mathlib.Core.Path.{_≡_, refl, sym, _∙_}
+use mathlib.Core.Path.{_≡_, refl}
 use Rattle.nodes.proofs.Lookups.{int-to-type, to-type, record-no-type}
 use Rattle.semantics.specs.Table.{deref, value, target}
 use Rattle.semantics.specs.Check.{passes}

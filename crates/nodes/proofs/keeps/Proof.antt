@@ -1,5 +1,4 @@
 -- `nodes::keeps` meets its contract.
-use mathlib.Core.Path.{sym}
 use Rattle.nodes.proofs.Lookups.{int-no-pointer, other-pointer}
 use Rattle.nodes.proofs.keeps.Statement.{statement}
 use Rattle.nodes.proofs.keeps.Tie as tie

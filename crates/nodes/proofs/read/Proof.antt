@@ -1,11 +1,10 @@
 -- `nodes::read` meets its contract.
 use borrow.Author.Needs.{needs}
-use native.Mathlib.Omega.{arith}
 use denote.Ref.{now}
-use mathlib.Core.Path.{_≡_, refl, sym, _∙_}
+use mathlib.Core.Path.{_≡_, refl}
 use Rattle.semantics.specs.Table.{read, place}
 use Rattle.semantics.specs.Check.{passes}
-use Rattle.nodes.proofs.Answers.{verdict-refuses, verdict-passes, operands, operand-refused, types-refused, elaborates, placed, Child, only-child-of}
+use Rattle.nodes.proofs.Answers.{verdict-refuses, verdict-passes, operands, operand-refused, elaborates, placed, Child, only-child-of}
 use Rattle.nodes.proofs.read.Statement.{statement}
 use Rattle.nodes.proofs.read.Tie as tie
 

@@ -2,11 +2,11 @@
 use borrow.Author.Needs.{needs}
 use native.Mathlib.Omega.{arith}
 use denote.Ref.{now}
-use Prim.Native.Nat.{_+_, _-_, _≤_, _<_}
-use mathlib.Core.Path.{_≡_, sym, _∙_}
+use Prim.Native.Nat.{_+_, _<_}
+use mathlib.Core.Path.{_≡_, _∙_}
 use Rattle.semantics.specs.Words.{Words, word}
 use Rattle.semantics.specs.Table.{field-total, field-offset}
-use Rattle.nodes.specs.Contracts.{Sized}
+use Rattle.nodes.specs.Promises.{Sized}
 use Rattle.nodes.proofs.Lookups.{Record-at, record-at, size-type, size-record}
 use Rattle.nodes.proofs.size_of.Statement.{statement}
 use Rattle.nodes.proofs.size_of.Tie as tie

@@ -1,0 +1,45 @@
+/* Mavistable for C: checks and runs routines given as tables of 32-bit words, with the bounds of every pointer tracked.
+   Link with libcapi.a. Both calls work on any words, allocate nothing, keep no state and may run on several threads. */
+#ifndef MAVISTABLE_H
+#define MAVISTABLE_H
+
+#include <stddef.h>
+#include <stdint.h>
+
+/* The verdict on a table. */
+struct mavistable_verdict {
+    uint32_t refused; /* 0: the table passes; 1: it is refused */
+    uint32_t number;  /* refused: the number of the refusal, 1 to 9; else 0 */
+    size_t place;     /* refused: the place of the word at fault; else 0 */
+};
+
+enum mavistable_ending {
+    MAVISTABLE_REFUSED = 0, /* nothing was run, and no word of the lists was changed */
+    MAVISTABLE_DONE = 1,    /* all commands were done */
+    MAVISTABLE_ABORT = 2,   /* a bounds check was not passed */
+    MAVISTABLE_NOROOM = 3   /* an allocation did not fit in the lists */
+};
+
+/* How a call ended. What an ending does not tell is 0. */
+struct mavistable_answer {
+    uint32_t ending;  /* one of enum mavistable_ending */
+    uint32_t number;  /* refused: the number of the refusal, 1 to 11 */
+    size_t place;     /* refused: its place */
+    uint32_t command; /* abort, no room: the number of the command, from 0 */
+    uint32_t unused;  /* done, abort, no room: the first word of the lists that was never handed out */
+};
+
+/* Checks a table of `length` words.
+   The caller owes: `table` points to `length` readable words (for length 0 it is any pointer but NULL). */
+struct mavistable_verdict mavistable_check(const uint32_t *table, size_t length);
+
+/* Checks a table and the other arguments, clears the three lists, sets the variables to the inputs and runs the commands.
+   The lists are the memory: word i has the value values[i] and the bounds [bases[i], ends[i]), none if both are 0.
+   Lists of differing length, or of a length that does not fit, are refused and left as they are.
+   The caller owes: each pointer points to as many words as its length says (readable; those of the three lists writable too),
+   none is NULL, and no list overlaps another one or the table or the inputs. */
+struct mavistable_answer mavistable_run(const uint32_t *table, size_t table_length, const uint32_t *inputs, size_t input_count,
+                                        uint32_t *values, size_t values_length, uint32_t *bases, size_t bases_length,
+                                        uint32_t *ends, size_t ends_length);
+
+#endif
