@@ -57,5 +57,5 @@ fn main() {
         &mut out,
         0,
     );
-    console::flush(&out, at);
+    stream::flush(&out, at);
 }

@@ -1,8 +1,10 @@
 // What the bench program does with a text of numbers: decides what it asks for, runs it and prints how it ended.
 use layout::index;
 use layout::long;
-use libc::STDOUT_FILENO;
 use machine::Answer;
+use stream::least;
+use stream::make_room;
+use stream::put_after;
 use text::Scanner;
 ghost use Prim.Native.Nat.{_≤_};
 ghost use lib.ListN.{length};
@@ -51,48 +53,6 @@ impl Request {
         }
         Request::Run(index(numbers[0]), from)
     }
-}
-
-// The place of the first byte b from `from` on, or the length.
-pub fn find(bytes: &[u8], from: usize, b: u8) -> usize
-    requires { ⌜ from ≤ length (now bytes) ⌝ }
-    ensures { λ r. ⌜ (from ≤ r) × (r ≤ length (now (bytes .entry))) ⌝ }
-{
-    let mut i = from;
-    while i < bytes.len() {
-        if bytes[i] == b {
-            return i;
-        }
-        i += 1;
-    }
-    i
-}
-
-// Writes the first `at` bytes to standard output, and answers the next free place, 0.
-pub fn flush(out: &[u8], at: usize) -> usize {
-    if at <= out.len() {
-        io::write_all(STDOUT_FILENO, &out[0..at]);
-    }
-    0
-}
-
-// A line of the output, or a word of memory, has at most this many bytes, those counted that `text::put_number` wants free.
-const ROOM: usize = 128;
-
-// The next free place, after a flush if less than `ROOM` is left.
-pub fn make_room(out: &[u8], at: usize) -> usize {
-    if at <= out.len() {
-        if ROOM <= out.len() - at {
-            return at;
-        }
-    }
-    flush(out, at)
-}
-
-// Some bytes and then a number.
-pub fn put_after(out: &mut [u8], at: usize, bytes: &[u8], x: u64) -> usize {
-    let at = text::put_bytes(out, at, bytes);
-    text::put_number(out, at, x)
 }
 
 // A word and two numbers.
@@ -165,12 +125,6 @@ fn put_memory(
         at = put_word(out, at, i, values[i], bases[i], ends[i]);
     }
     at
-}
-
-pub fn least(a: usize, b: usize) -> usize
-    ensures { λ r. ⌜ (r ≤ a) × (r ≤ b) ⌝ }
-{
-    if a < b { a } else { b }
 }
 
 // How a call ended, and after a run the memory, of which `memory` words were lent.

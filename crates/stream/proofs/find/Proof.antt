@@ -1,9 +1,9 @@
--- `console::find` meets its contract. Assumes nothing.
+-- `stream::find` meets its contract. Assumes nothing.
 use Prim.Native.Nat.{_-_, _≤_}
 use lib.ListN.{length}
 use borrow.Author.Needs.{needs}
-use Rattle.console.proofs.find.Statement.{statement}
-use Rattle.console.proofs.find.Tie as tie
+use Rattle.stream.proofs.find.Statement.{statement}
+use Rattle.stream.proofs.find.Tie as tie
 
 abbrev Inv-loop : tie.InvT-loop
 Inv-loop bytes from b i₀ i = (from ≤ i) × (i ≤ length bytes)
