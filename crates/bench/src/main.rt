@@ -1,0 +1,61 @@
+// The bench program: reads a memory length, inputs and a table as decimal numbers, runs the table and prints how it ended.
+use libc::STDIN_FILENO;
+use text::Scanner;
+
+struct Progress {
+    more: bool,
+    scanner: Scanner,
+}
+
+// Reads once, and scans what came. A read that fails ends the text as its end does.
+fn read_some(numbers: &mut [u32], s: Scanner) -> Progress {
+    let mut buffer = io::large_buffer();
+    let got = libc::read(STDIN_FILENO, &mut buffer);
+    let n = io::count(got, &buffer);
+    if n == 0 {
+        return Progress {
+            more: false,
+            scanner: s,
+        };
+    }
+    let scanner = text::scan(&buffer[..n], numbers, s);
+    Progress {
+        more: true,
+        scanner,
+    }
+}
+
+// Scans standard input. A proved loop has to end, so this one counts its turns down from a number that no run uses up.
+fn read_all(numbers: &mut [u32]) -> Scanner {
+    let mut s = Scanner::new();
+    let mut turns = u64::MAX;
+    while turns > 0 {
+        let p = read_some(numbers, s);
+        s = p.scanner;
+        if !p.more {
+            return s;
+        }
+        turns -= 1;
+    }
+    s
+}
+
+fn main() {
+    // Room for a memory length, an input count, 64 inputs and a table of 2,470 words.
+    let mut numbers = [0u32; 2536];
+    let mut values = [0u32; 4096];
+    let mut bases = [0u32; 4096];
+    let mut ends = [0u32; 4096];
+    let mut out = io::large_buffer();
+    let s = read_all(&mut numbers);
+    let at = console::answer(
+        &mut numbers,
+        s,
+        &mut values,
+        &mut bases,
+        &mut ends,
+        &mut out,
+        0,
+    );
+    stream::flush(&out, at);
+}
