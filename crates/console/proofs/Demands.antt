@@ -46,12 +46,12 @@ no-demand (m ∷ (n ∷ rest)) deny =
     let enough : 2 + n ≤ length (m ∷ (n ∷ rest)) = omega arith in
     let table : length (m ∷ (n ∷ rest)) ≤ 2 + n + 2470 = omega (arith, length-drop n rest) in
     deny
-    (record
-    { both = omega arith
-    ; memory = leb-true m 4096 (q .0)
-    ; inputs = leb-true n 64 (q .1)
-    ; enough = enough
-    ; table = table
+    (record {
+      both = omega arith;
+      memory = leb-true m 4096 (q .0);
+      inputs = leb-true n 64 (q .1);
+      enough = enough;
+      table = table;
     }))
 
 a-demand : (xs : List ℕ) → Sized xs → demand-of xs ≡ run (getD xs 0 0) (take (getD xs 1 0) (drop 2 xs)) (drop (2 + getD xs 1 0) xs)
@@ -120,26 +120,26 @@ module _ (list : List ℕ) (s : Scanner) where
 
   pub of-run : (memory inputs : ℕ) → memory ≡ getD list 0 0 → inputs ≡ getD list 1 0 → (s .state ≡ 2 → ⊥) → Stored → Requested list s (Run memory (2 + inputs))
   of-run memory inputs e0 e1 good z =
-      record
-      { bounds =
-          λ memory′ from′ e.
-          let m : memory ≡ memory′ = cc in
-          let i : 2 + inputs ≡ from′ = cc in
-          let a = z .memory in
-          let b = z .enough in
-          (omega arith, omega arith, omega arith, z .count)
-      ; meets =
-          λ text h f.
-          let xs = take (s .count) list in
-          let l = length-take-le (s .count) list (z .count) in
-          let b = z .both in
-          let g0 = getD-take (s .count) list 0 0 (omega arith) in
-          let g1 = getD-take (s .count) list 1 0 (omega arith) in
-          let m = z .memory in
-          let i = z .inputs in
-          let n = z .enough in
-          let t = z .table in
-          let sized : Sized xs = record { both = omega arith; memory = omega arith; inputs = omega arith; enough = omega arith; table = omega arith } in
-          let i2 : 2 + inputs - 2 ≡ inputs = omega arith in
-          cc (demand-good text good f, a-demand xs sized)
+      record {
+        bounds =
+            λ memory′ from′ e.
+            let m : memory ≡ memory′ = cc in
+            let i : 2 + inputs ≡ from′ = cc in
+            let a = z .memory in
+            let b = z .enough in
+            (omega arith, omega arith, omega arith, z .count);
+        meets =
+            λ text h f.
+            let xs = take (s .count) list in
+            let l = length-take-le (s .count) list (z .count) in
+            let b = z .both in
+            let g0 = getD-take (s .count) list 0 0 (omega arith) in
+            let g1 = getD-take (s .count) list 1 0 (omega arith) in
+            let m = z .memory in
+            let i = z .inputs in
+            let n = z .enough in
+            let t = z .table in
+            let sized : Sized xs = record { both = omega arith; memory = omega arith; inputs = omega arith; enough = omega arith; table = omega arith } in
+            let i2 : 2 + inputs - 2 ≡ inputs = omega arith in
+            cc (demand-good text good f, a-demand xs sized);
       }

@@ -72,13 +72,7 @@ pub fn put_ending(out: &mut [u8], at: usize, a: Answer) -> usize {
             place as u64,
         ),
         Answer::Done(unused) => put_after(out, at, b"done ", long(unused)),
-        Answer::Abort(command, unused) => put_pair(
-            out,
-            at,
-            b"abort ",
-            long(command),
-            long(unused),
-        ),
+        Answer::Abort(command, unused) => put_pair(out, at, b"abort ", long(command), long(unused)),
         Answer::NoRoom(command, unused) => put_pair(
             out,
             at,

@@ -12,7 +12,9 @@ use Rattle.semantics.specs.Run.{begin, run, call}
 use Rattle.semantics.proofs.Passed.{Passed, passed, section-ok, section-end}
 use Rattle.semantics.proofs.Safety.{Begun, begun, equally-long, begin-inv}
 use Rattle.evaluator.specs.Result.{state-of}
-use Rattle.layout.specs.Layout.{section-of, layout, layout-by, Stands}
+use Rattle.layout.specs.Layout.{verdict-of, section-of, layout, layout-by, Stands}
+use Rattle.layout.specs.declared.Verdict as told
+use Rattle.layout.specs.declared.Verdict.the-variants as the
 use Rattle.layout.proofs.Laws.{or-else-pass, or-else-refuse}
 use Rattle.layout.specs.declared.Table.{Table}
 use Rattle.layout.specs.declared.Parsed.the-variants as parsed
@@ -37,6 +39,16 @@ unfolding call call-fault
 table-refused t inputs vs bs es e =
     rw (or-else-refuse (check t) (arguments-fault t inputs (length vs) (length bs) (length es)) (sym e)) (record { answer = refl; values = refl; bases = refl; ends = refl })
 
+pub told-refused : {r : told.Verdict} {v : Verdict} {n p : ℕ} → verdict-of r ≡ v → r ≡ the.Refused n p → refused n p ≡ v
+told-refused e q = ap verdict-of (sym q) ∙ e
+
+-- So is one with arguments that are refused.
+pub arguments-refused : (t inputs vs bs es : Words) {n p : ℕ} → check t ≡ passes → refused n p ≡ arguments-fault t inputs (length vs) (length bs) (length es)
+    → Is (call t inputs vs bs es) (Refused n p) vs bs es
+unfolding call call-fault
+arguments-refused t inputs vs bs es ok e =
+    rw (or-else-pass (check t) (arguments-fault t inputs (length vs) (length bs) (length es)) ok ∙ sym e) (record { answer = refl; values = refl; bases = refl; ends = refl })
+
 -- ---- a table that passed
 
 stands : {t : Words} → Passed t → (s : ℕ) → s < 6 → Stands t s (section-of t s)
@@ -55,10 +67,6 @@ module _ {t code types : Words} {l : Table} (pr : Program t code types) (el : l 
     same-fault : call-fault t inputs (length vs) (length bs) (length es) ≡ arguments-fault t inputs (length vs) (length bs) (length es)
     unfolding call-fault
     same-fault = or-else-pass (check t) (arguments-fault t inputs (length vs) (length bs) (length es)) (pr .passed)
-
-    pub call-refused : {n p : ℕ} → refused n p ≡ arguments-fault t inputs (length vs) (length bs) (length es) → Is (call t inputs vs bs es) (Refused n p) vs bs es
-    unfolding call
-    call-refused e = rw (same-fault ∙ sym e) (record { answer = refl; values = refl; bases = refl; ends = refl })
 
     module _ (e : passes ≡ arguments-fault t inputs (length vs) (length bs) (length es)) where
       pub call-begun : Begun t inputs (length vs)

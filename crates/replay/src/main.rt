@@ -240,15 +240,7 @@ fn answer_numbers(
     at: usize,
 ) -> usize {
     match Case::of(numbers) {
-        Case::Run(from) => run_case(
-            numbers,
-            from,
-            values,
-            bases,
-            ends,
-            out,
-            at,
-        ),
+        Case::Run(from) => run_case(numbers, from, values, bases, ends, out, at),
         Case::Check(from) => check_case(&numbers[from..], out, at),
         Case::Malformed => text::put_bytes(out, at, b"case\n"),
     }
@@ -270,14 +262,7 @@ fn answer_line(
         return text::put_bytes(out, at, b"case\n");
     }
     let count = least(s.count, numbers.len());
-    answer_numbers(
-        &numbers[0..count],
-        values,
-        bases,
-        ends,
-        out,
-        at,
-    )
+    answer_numbers(&numbers[0..count], values, bases, ends, out, at)
 }
 
 // The current line, and the next free place of the output.

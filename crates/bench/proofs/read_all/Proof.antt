@@ -17,13 +17,13 @@ read-all-spec =
     (tie.spec
     Inv-loop
     μ-loop
-    (λ c κs. search needs) -- new-requires
-    (λ c. search needs) -- loop-holds
-    (λ c κs. search needs) -- read-some-requires
-    (λ c. search needs) -- same-length
-    (λ c. search needs) -- returns
-    (λ c. search needs) -- sub-turns
-    (λ c. search needs) -- loop-less
-    (λ c. search needs) -- loop-again
-    (λ c. search needs) -- same-length-2
-    (λ c. search needs)) -- returns-2
+    (λ c κs. search needs)  -- new-requires
+    (λ c. search needs)  -- loop-holds
+    (λ c κs. search needs)  -- read-some-requires
+    (λ c. search needs)  -- same-length
+    (λ c. search needs)  -- returns
+    (λ c. search needs)  -- sub-turns
+    (λ c. search needs)  -- loop-less
+    (λ c. search needs)  -- loop-again
+    (λ c. search needs)  -- same-length-2
+    (λ c. search needs))  -- returns-2

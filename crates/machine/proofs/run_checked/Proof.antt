@@ -5,7 +5,7 @@ use Prim.Native.Nat.{_+_}
 use mathlib.Core.Path.{refl, sym, ap, _∙_}
 use denote.Ref.{now}
 use Rattle.layout.specs.Layout.{verdict-of}
-use Rattle.machine.proofs.Calls.{variables-stand, commands-stand, call-refused, call-begun, call-executable, call-executed}
+use Rattle.machine.proofs.Calls.{variables-stand, commands-stand, told-refused, arguments-refused, call-begun, call-executable, call-executed}
 use Rattle.machine.proofs.run_checked.Statement.{statement}
 use Rattle.machine.proofs.run_checked.Tie as tie
 
@@ -13,7 +13,7 @@ check-arguments-requires : tie.Need-check-arguments-requires
 check-arguments-requires c κs = variables-stand (c .before .before .before .before .before .before .before .pre .0) (c .before .before .before .before .before .before .before .pre .1)
 
 returns : tie.Need-returns
-returns c = call-refused (c .before .before .before .before .before .before .before .before .before .before .before .pre .0) (c .before .before .before .before .before .before .before .before .before .before .before .pre .1) _ _ _ _ (ap verdict-of (sym (c .before .n .given .1)) ∙ c .before .before .before .check-arguments .ensures)
+returns c = arguments-refused _ _ _ _ _ (search needs) (search (needs, told-refused))
 
 set-inputs-requires : tie.Need-set-inputs-requires
 set-inputs-requires c κs = let b = call-begun (c .before .before .before .before .before .before .before .before .before .before .before .before .before .before .before .before .before .before .before .before .before .before .before .pre .0) (c .before .before .before .before .before .before .before .before .before .before .before .before .before .before .before .before .before .before .before .before .before .before .before .pre .1) (now (c .before .before .before .before .before .before .before .before .before .before .before .before .before .before .before .before .before .before .before .before .before .before .before .args .inputs)) (now (c .before .before .before .before .before .before .before .before .before .before .before .before .before .before .before .before .before .before .before .before .before .before .before .args .values)) (now (c .before .before .before .before .before .before .before .before .before .before .before .before .before .before .before .before .before .before .before .before .before .before .before .args .bases)) (now (c .before .before .before .before .before .before .before .before .before .before .before .before .before .before .before .before .before .before .before .before .before .before .before .args .ends)) (ap verdict-of (sym (c .before .before .before .before .before .before .before .before .before .before .before .before .before .enum-told .given .1)) ∙ c .before .before .before .before .before .before .before .before .before .before .before .before .before .before .before .check-arguments .ensures) in omega (arith, b .room, b .inputs-length)

@@ -19,10 +19,10 @@ after-bytes-spec =
     (tie.spec
     Inv-loop
     μ-loop
-    (λ c. search needs) -- loop-holds
-    (λ c. search needs) -- shared-slice-read-after-byte
-    (λ c κs. search needs) -- after-byte-requires
-    (λ c. search needs) -- add-i
-    (λ c. search needs) -- loop-less
-    (λ c. search needs) -- loop-again
-    (λ c. search needs)) -- returns
+    (λ c. search needs)  -- loop-holds
+    (λ c. search needs)  -- shared-slice-read-after-byte
+    (λ c κs. search needs)  -- after-byte-requires
+    (λ c. search needs)  -- add-i
+    (λ c. search needs)  -- loop-less
+    (λ c. search needs)  -- loop-again
+    (λ c. search needs))  -- returns

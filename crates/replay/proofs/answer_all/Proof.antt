@@ -19,28 +19,28 @@ answer-all-spec =
     (tie.spec
     Inv-loop
     μ-loop
-    (λ c κs. search needs) -- new-requires
-    (λ c κs. search needs) -- new-requires-2
-    (λ c. search needs) -- loop-holds
-    (λ c κs. search needs) -- next-part-requires
-    (λ c. search needs) -- sub-take-part
-    (λ c. search needs) -- part-take-part-start
-    (λ c. search needs) -- part-take-part-end
-    (λ c κs. search needs) -- take-part-requires
-    (λ c. search needs) -- sub-turns
-    (λ c. search needs) -- loop-less
-    (λ c. omega (arith, c .before .before .before .before .before .before .before .before .before .before .before .before .before .before .before .before .before .before .before .before .before .before .before .before .before .loop .inv, c .before .before .before .before .before .before .before .before .before .before .before .before .before .before .before .before .before .before .before .before .next-part .kept, c .before .before .before .before .before .before .before .before .before .before .take-part .kept)) -- loop-again
-    (λ c. search needs) -- same-length
-    (λ c. search needs) -- same-length-2
-    (λ c. search needs) -- same-length-3
-    (λ c. search needs) -- same-length-4
-    (λ c. search needs) -- same-length-5
-    (λ c. search needs) -- same-length-6
-    (λ c. search needs) -- returns
-    (λ c. search needs) -- same-length-7
-    (λ c. search needs) -- same-length-8
-    (λ c. search needs) -- same-length-9
-    (λ c. search needs) -- same-length-10
-    (λ c. search needs) -- same-length-11
-    (λ c. search needs) -- same-length-12
-    (λ c. search needs)) -- returns-2
+    (λ c κs. search needs)  -- new-requires
+    (λ c κs. search needs)  -- new-requires-2
+    (λ c. search needs)  -- loop-holds
+    (λ c κs. search needs)  -- next-part-requires
+    (λ c. search needs)  -- sub-take-part
+    (λ c. search needs)  -- part-take-part-start
+    (λ c. search needs)  -- part-take-part-end
+    (λ c κs. search needs)  -- take-part-requires
+    (λ c. search needs)  -- sub-turns
+    (λ c. search needs)  -- loop-less
+    (λ c. omega (arith, c .before .before .before .before .before .before .before .before .before .before .before .before .before .before .before .before .before .before .before .before .before .before .before .before .before .loop .inv, c .before .before .before .before .before .before .before .before .before .before .before .before .before .before .before .before .before .before .before .before .next-part .kept, c .before .before .before .before .before .before .before .before .before .before .take-part .kept))  -- loop-again
+    (λ c. search needs)  -- same-length
+    (λ c. search needs)  -- same-length-2
+    (λ c. search needs)  -- same-length-3
+    (λ c. search needs)  -- same-length-4
+    (λ c. search needs)  -- same-length-5
+    (λ c. search needs)  -- same-length-6
+    (λ c. search needs)  -- returns
+    (λ c. search needs)  -- same-length-7
+    (λ c. search needs)  -- same-length-8
+    (λ c. search needs)  -- same-length-9
+    (λ c. search needs)  -- same-length-10
+    (λ c. search needs)  -- same-length-11
+    (λ c. search needs)  -- same-length-12
+    (λ c. search needs))  -- returns-2

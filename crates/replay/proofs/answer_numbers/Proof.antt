@@ -36,24 +36,24 @@ pub answer-numbers-spec : {M : Type 1} → statement M
 answer-numbers-spec =
     tie.close
     (tie.spec
-    (λ c κs. search needs) -- of-requires
-    (λ c. search needs) -- enum-known-from
+    (λ c κs. search needs)  -- of-requires
+    (λ c. search needs)  -- enum-known-from
     run-case-requires
-    (λ c. search needs) -- enum-known-from-2
+    (λ c. search needs)  -- enum-known-from-2
     mul-check-case
     sub-check-case
     part-check-case-start
-    (λ c. search needs) -- part-check-case-end
-    (λ c κs. search needs) -- check-case-requires
-    (λ c. search needs) -- enum-told
-    (λ c. search needs) -- slice-aggregate-put-bytes
-    (λ c κs. search needs) -- put-bytes-requires
-    (λ c. search needs) -- same-length
-    (λ c. search needs) -- same-length-2
-    (λ c. search needs) -- same-length-3
-    (λ c. search needs) -- same-length-4
-    (λ c. search needs) -- returns
-    (λ c. search needs) -- same-length-5
-    (λ c. search needs) -- returns-2
-    (λ c. search needs) -- same-length-6
-    (λ c. search needs)) -- returns-3
+    (λ c. search needs)  -- part-check-case-end
+    (λ c κs. search needs)  -- check-case-requires
+    (λ c. search needs)  -- enum-told
+    (λ c. search needs)  -- slice-aggregate-put-bytes
+    (λ c κs. search needs)  -- put-bytes-requires
+    (λ c. search needs)  -- same-length
+    (λ c. search needs)  -- same-length-2
+    (λ c. search needs)  -- same-length-3
+    (λ c. search needs)  -- same-length-4
+    (λ c. search needs)  -- returns
+    (λ c. search needs)  -- same-length-5
+    (λ c. search needs)  -- returns-2
+    (λ c. search needs)  -- same-length-6
+    (λ c. search needs))  -- returns-3

@@ -19,11 +19,11 @@ fill-spec =
     (tie.spec
     Inv-loop
     μ-loop
-    (λ c. search needs) -- loop-holds
-    (λ c. search needs) -- mul-list
-    (λ c. search needs) -- slice-write-list
-    (λ c. search needs) -- add-i
-    (λ c. search needs) -- loop-less
-    (λ c. simp length-set (search needs)) -- loop-again
-    (λ c. search needs) -- same-length
-    (λ c. search needs)) -- returns
+    (λ c. search needs)  -- loop-holds
+    (λ c. search needs)  -- mul-list
+    (λ c. search needs)  -- slice-write-list
+    (λ c. search needs)  -- add-i
+    (λ c. search needs)  -- loop-less
+    (λ c. simp length-set (search needs))  -- loop-again
+    (λ c. search needs)  -- same-length
+    (λ c. search needs))  -- returns

@@ -19,17 +19,17 @@ put-words-spec =
     (tie.spec
     Inv-loop
     μ-loop
-    (λ c. search needs) -- loop-holds
-    (λ c κs. search needs) -- make-room-requires
-    (λ c. search needs) -- mul-put-word
-    (λ c. search needs) -- shared-slice-read-put-word
-    (λ c. search needs) -- mul-put-word-2
-    (λ c. search needs) -- shared-slice-read-put-word-2
-    (λ c. search needs) -- mul-put-word-3
-    (λ c. search needs) -- shared-slice-read-put-word-3
-    (λ c κs. search needs) -- put-word-requires
-    (λ c. search needs) -- add-i
-    (λ c. search needs) -- loop-less
-    (λ c. search needs) -- loop-again
-    (λ c. search needs) -- same-length
-    (λ c. search needs)) -- returns
+    (λ c. search needs)  -- loop-holds
+    (λ c κs. search needs)  -- make-room-requires
+    (λ c. search needs)  -- mul-put-word
+    (λ c. search needs)  -- shared-slice-read-put-word
+    (λ c. search needs)  -- mul-put-word-2
+    (λ c. search needs)  -- shared-slice-read-put-word-2
+    (λ c. search needs)  -- mul-put-word-3
+    (λ c. search needs)  -- shared-slice-read-put-word-3
+    (λ c κs. search needs)  -- put-word-requires
+    (λ c. search needs)  -- add-i
+    (λ c. search needs)  -- loop-less
+    (λ c. search needs)  -- loop-again
+    (λ c. search needs)  -- same-length
+    (λ c. search needs))  -- returns

@@ -17,10 +17,10 @@ find-spec =
     (tie.spec
     Inv-loop
     μ-loop
-    (λ c. search needs) -- loop-holds
-    (λ c. search needs) -- shared-slice-read-if1
-    (λ c. search needs) -- returns
-    (λ c. search needs) -- add-i
-    (λ c. search needs) -- loop-less
-    (λ c. search needs) -- loop-again
-    (λ c. search needs)) -- returns-2
+    (λ c. search needs)  -- loop-holds
+    (λ c. search needs)  -- shared-slice-read-if1
+    (λ c. search needs)  -- returns
+    (λ c. search needs)  -- add-i
+    (λ c. search needs)  -- loop-less
+    (λ c. search needs)  -- loop-again
+    (λ c. search needs))  -- returns-2
