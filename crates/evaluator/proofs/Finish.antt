@@ -1,7 +1,7 @@
 -- What the functions that finish a node answer is what the rules' steps give.
 use Prim.Native.Nat.{ℕ, _+_, _%_, _≤_, _<_}
 use native.Mathlib.Nat.{one-mul}
-use mathlib.Core.Bool.{Bool, true, false}
+use mathlib.Core.Bool.{Bool, true, false, _&&_}
 use mathlib.Core.Path.{_≡_, refl, sym, _∙_}
 use mathlib.Core.List.{List}
 use native.Mathlib.Omega.{arith}
@@ -13,7 +13,8 @@ use Rattle.semantics.specs.Table.{is-pointer}
 use Rattle.semantics.specs.Rules.{Datum, unbounded, Location, variable-location, Event, State, Outcome, bind, in-bounds, checked, deref-step, field-step, touchable, contents, read-step, sum-step, cast-step, malloc-step}
 use Rattle.semantics.proofs.Tests.{in-bounds-true}
 use Rattle.semantics.proofs.Invariant.{permitted-used, Location-ok, Good, good-ok}
-use Rattle.evaluator.specs.Result.{failed, full, column, state-of, Answers, answers-ok, answers-failed, answers-full, Location-answers, Datum-answers, within-bounds, Variable-answered, Deref-answered, Field-answered, Sum-answered, Load-answered, Cast-answered, Malloc-answered}
+use Rattle.evaluator.specs.Lists.{column}
+use Rattle.evaluator.specs.Result.{failed, full, state-of, Answers, answers-ok, answers-failed, answers-full, Location-answers, Datum-answers, within-bounds, Variable-answered, Deref-answered, Field-answered, Sum-answered, Load-answered, Cast-answered, Malloc-answered}
 
 -- ---- bounds
 
@@ -153,10 +154,10 @@ read-done {at = at} {u = u} pointer under small found answer good =
     goes-on (read-step pointer) under answer
     (λ l log hl _ _. rw (hl, lt-ltb 0 at (t .0), lt-ltb at u (t .1)) (answers-ok _ _ (found log .0) (found log .1) (found log .2) small))
 
-pub load-int : {p at r : ℕ} {m : List Words} → at < failed → r < failed → p ≡ 0 → r ≡ word (column m 0) at → Load-answered p m at r 0 0
+pub load-int : {p at r b′ e′ : ℕ} {m : List Words} → at < failed → r < failed → p ≡ 0 → r ≡ word (column m 0) at → b′ ≡ 0 → e′ ≡ 0 → Load-answered p m at r b′ e′
 unfolding is-pointer
-load-int {p} under small zero h =
-    record { meets = λ vars b e u s₀ o a g. read-done (is-pointer p) under small (λ log. rw zero (sym h, refl, refl)) a g }
+load-int {p} under small zero h hb he =
+    record { meets = λ vars b e u s₀ o a g. read-done (is-pointer p) under small (λ log. rw zero (sym h, sym hb, sym he)) a g }
 
 pub load-pointer : {p at r b′ e′ : ℕ} {m : List Words} → at < failed → r < failed → (p ≡ 0 → ⊥) → r ≡ word (column m 0) at → b′ ≡ word (column m 1) at → e′ ≡ word (column m 2) at
     → Load-answered p m at r b′ e′
@@ -164,13 +165,21 @@ unfolding is-pointer
 load-pointer {p} under small some h hb he =
     record { meets = λ vars b e u s₀ o a g. read-done (is-pointer p) under small (λ log. rw (le-leb 1 p (omega (arith, some))) (sym h, sym hb, sym he)) a g }
 
--- A cast hands on the number, and the bounds or none.
-pub cast-int : {k v b e : ℕ} → k ≡ 0 → Cast-answered k v b e 0 0
+pub keeps-none : (from to : ℕ) → from ≡ 0 → is-pointer 0 ≡ is-pointer from && is-pointer to
 unfolding is-pointer
-cast-int {k} {v} zero = record { meets = λ m u o a. rw zero (dropped a) }
+keeps-none from to zero = rw zero
+
+pub keeps-some : (from to : ℕ) → (from ≡ 0 → ⊥) → is-pointer to ≡ is-pointer from && is-pointer to
+unfolding is-pointer
+keeps-some from to some = rw (le-leb 1 from (omega (arith, some)))
+
+-- A cast hands on the number, and the bounds or none.
+pub cast-int : {k v b e b′ e′ : ℕ} → k ≡ 0 → b′ ≡ 0 → e′ ≡ 0 → Cast-answered k v b e b′ e′
+unfolding is-pointer
+cast-int {k} {v} {b′ = b′} {e′ = e′} zero hb he = record { meets = λ m u o a. rw zero (dropped a) }
   where
-    dropped : {m : List Words} {u b e : ℕ} {o : Outcome Datum} → Datum-answers m v b e u o → Datum-answers m v 0 0 u (bind o (cast-step false))
-    dropped (answers-ok x log p q s small) = answers-ok _ log p refl refl small
+    dropped : {m : List Words} {u b e : ℕ} {o : Outcome Datum} → Datum-answers m v b e u o → Datum-answers m v b′ e′ u (bind o (cast-step false))
+    dropped (answers-ok x log p q s small) = answers-ok _ log p (sym hb) (sym he) small
     dropped (answers-failed x log h) = answers-failed x log h
     dropped (answers-full log h) = answers-full log h
 
@@ -188,13 +197,13 @@ cast-pointer {k} {v} some = record { meets = λ m u o a. rw (le-leb 1 k (omega (
 pub malloc-ended : {len v u b′ e′ : ℕ} → failed ≤ v → Malloc-answered len v u v b′ e′ u
 malloc-ended {b′ = b′} {e′ = e′} over = record { meets = λ b e m o hl a. passed-on b′ e′ malloc-step over a }
 
-pub malloc-none : {len v u : ℕ} → v ≡ 0 → Malloc-answered len v u 0 0 0 u
+pub malloc-none : {len v u r b′ e′ u′ : ℕ} → v ≡ 0 → r ≡ 0 → b′ ≡ 0 → e′ ≡ 0 → u′ ≡ u → Malloc-answered len v u r b′ e′ u′
 unfolding malloc-step
-malloc-none h =
+malloc-none h hr hb he hu =
     record {
       meets = λ b e m o hl a.
           goes-on malloc-step (omega arith) a
-          (λ x log hx _ _. rw (eq-eqb (x .value) 0 (hx ∙ h)) (answers-ok (unbounded 0) log refl refl refl (omega arith)));
+          (λ x log hx _ _. rw (eq-eqb (x .value) 0 (hx ∙ h), hu) (answers-ok (unbounded 0) log (sym hr) (sym hb) (sym he) (omega arith)));
     }
 
 pub malloc-some : {len v u r b′ e′ u′ : ℕ} → v < failed → (v ≡ 0 → ⊥) → u + v ≤ len → r ≡ u → b′ ≡ u → e′ ≡ u + v → u′ ≡ u + v → u < failed

@@ -1,3 +1,3 @@
--- What the evaluator works on, and what its functions answer.
-pub mod Code
+-- What the evaluator reads, and what its functions answer.
+pub mod Lists
 pub mod Result

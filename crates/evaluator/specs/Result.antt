@@ -2,14 +2,15 @@
 use Prim.Native.Nat.{ℕ, _<_, _≤_}
 use mathlib.Core.Bool.{Bool}
 use mathlib.Core.Path.{_≡_}
-use mathlib.Core.List.{List, []}
-use lib.ListN.{length, getD}
-use Rattle.semantics.specs.Words.{Words}
-use Rattle.semantics.specs.Table.{is-pointer}
+use mathlib.Core.List.{List}
+use lib.ListN.{length}
+use Rattle.semantics.specs.Words.{Words, word}
+use Rattle.semantics.specs.Table.{nodes, count, is-pointer}
+use Rattle.semantics.specs.Syntax.{place-of, value-of}
 use Rattle.semantics.specs.Rules.{Datum, Location, Event, Shortfall, State, Outcome, ok, fails, no-room, bind, variable-location, in-bounds, deref-step, field-step, read-step, sum-step, cast-step, malloc-step, place-at, value-at}
 use Rattle.semantics.proofs.Invariant.{Inv, Location-ok, Good}
 use Rattle.semantics.proofs.Steps.{Place-ok, Value-ok}
-use Rattle.evaluator.specs.Code.{code-place, code-value}
+use Rattle.evaluator.specs.Lists.{column, Lists}
 
 abbrev pub failed : ℕ
 failed = 4294967296
@@ -17,10 +18,7 @@ failed = 4294967296
 abbrev pub full : ℕ
 full = 4294967297
 
--- The three lists of the memory.
-abbrev pub column : List Words → ℕ → Words
-column m j = getD m j []
-
+-- The memory is three lists: values, bases and ends.
 abbrev pub state-of : List Words → ℕ → List Event → State
 state-of m u log = record { values = column m 0; bases = column m 1; ends = column m 2; unused = u; log = log }
 
@@ -36,6 +34,17 @@ Datum-answers = Answers (λ d. d .value) (λ d. d .base) (λ d. d .end)
 
 abbrev pub Location-answers : List Words → ℕ → ℕ → ℕ → ℕ → Outcome Location → Type 0
 Location-answers = Answers (λ l. l .at) (λ l. l .base) (λ l. l .end)
+
+-- Base, end and U: s′ has the U of s.
+pub record Kept (s s′ : Words) : Type 0 where
+  pub room : length s′ ≡ 3
+  pub unused : word s′ 2 ≡ word s 2
+
+-- s′ has the base b, the end e and the U of s.
+pub record Bounded (b e : ℕ) (s s′ : Words) : Type 0 where
+  pub base : word s′ 0 ≡ b
+  pub end : word s′ 1 ≡ e
+  pub kept : Kept s s′
 
 -- ---- What each function that finishes a node answers, from what its child answered: v with base b, end e and U u
 
@@ -80,21 +89,47 @@ pub record Ready (m : List Words) (u : ℕ) : Type 0 where
   pub inv : Inv vars (length (column m 0)) (state-of m u log)
   pub most : length (column m 0) ≤ 65536
 
-pub record Place-ready (c : Words) (m : List Words) (n u : ℕ) : Type 0 where
-  pub node : n < 512
-  pub state : Ready m u
-  pub tree : Place-ok (state .vars) (code-place c n)
+-- Node n is one of some table with the lists l, and its place can be worked out in the memory m from the state with U in s.
+pub record Place-ready (l m : List Words) (n : ℕ) (s : Words) : Type 0 where
+  pub table : Words
+  pub lists : Lists table l
+  pub node : n < count table nodes
+  pub room : length s ≡ 3
+  pub state : Ready m (word s 2)
+  pub tree : Place-ok (state .vars) (place-of table n)
 
-pub record Value-ready (c : Words) (m : List Words) (n u : ℕ) : Type 0 where
-  pub node : n < 512
-  pub state : Ready m u
-  pub tree : Value-ok (state .vars) (code-value c n)
+pub record Value-ready (l m : List Words) (n : ℕ) (s : Words) : Type 0 where
+  pub table : Words
+  pub lists : Lists table l
+  pub node : n < count table nodes
+  pub room : length s ≡ 3
+  pub state : Ready m (word s 2)
+  pub tree : Value-ok (state .vars) (value-of table n)
 
--- What is answered for node n from the state with U u is what the rules give, whatever the log.
-pub record Place-answered (c : Words) (m : List Words) (n u r b e u′ : ℕ) : Type 0 where
-  pub meets : (vars : ℕ) (log : List Event) → Inv vars (length (column m 0)) (state-of m u log) → Place-ok vars (code-place c n)
-      → Location-answers m r b e u′ (place-at (code-place c n) (state-of m u log))
+-- What is answered for node n from the state with U u, r with base b, end e and U u′, is what the rules give, whatever the table
+-- with these lists and the log.
+abbrev pub Place-meets : List Words → List Words → ℕ → ℕ → ℕ → ℕ → ℕ → ℕ → Type 0
+Place-meets l m n u r b e u′ =
+    (t : Words) → Lists t l → n < count t nodes → (vars : ℕ) (log : List Event) → Inv vars (length (column m 0)) (state-of m u log)
+    → Place-ok vars (place-of t n) → Location-answers m r b e u′ (place-at (place-of t n) (state-of m u log))
 
-pub record Value-answered (c : Words) (m : List Words) (n u r b e u′ : ℕ) : Type 0 where
-  pub meets : (vars : ℕ) (log : List Event) → Inv vars (length (column m 0)) (state-of m u log) → Value-ok vars (code-value c n)
-      → Datum-answers m r b e u′ (value-at (code-value c n) (state-of m u log))
+abbrev pub Value-meets : List Words → List Words → ℕ → ℕ → ℕ → ℕ → ℕ → ℕ → Type 0
+Value-meets l m n u r b e u′ =
+    (t : Words) → Lists t l → n < count t nodes → (vars : ℕ) (log : List Event) → Inv vars (length (column m 0)) (state-of m u log)
+    → Value-ok vars (value-of t n) → Datum-answers m r b e u′ (value-at (value-of t n) (state-of m u log))
+
+-- Base, end and U go through s.
+pub record Place-answered (l m : List Words) (n : ℕ) (s : Words) (r : ℕ) (s′ : Words) : Type 0 where
+  pub room : length s′ ≡ 3
+  pub meets : Place-meets l m n (word s 2) r (word s′ 0) (word s′ 1) (word s′ 2)
+
+pub record Value-answered (l m : List Words) (n : ℕ) (s : Words) (r : ℕ) (s′ : Words) : Type 0 where
+  pub room : length s′ ≡ 3
+  pub meets : Value-meets l m n (word s 2) r (word s′ 0) (word s′ 1) (word s′ 2)
+
+-- The place alone, and U: the place's bounds are not handed out.
+pub record Assigned-answered (l m : List Words) (n : ℕ) (s : Words) (r : ℕ) (s′ : Words) : Type 0 where
+  pub room : length s′ ≡ 3
+  pub base : ℕ
+  pub end : ℕ
+  pub meets : Place-meets l m n (word s 2) r base end (word s′ 2)

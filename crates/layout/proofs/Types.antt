@@ -7,11 +7,11 @@ use native.Mathlib.Omega.{arith}
 use native.Mathlib.Numerals.{add-one}
 use native.Mathlib.Decide.{ℕ-discrete}
 use borrow.Author.Tests.{le-ltb, lt-ltb, le-leb, lt-leb, ltb-true, ltb-false, leb-true, eq-eqb, ne-eqb}
-use lib.Dec.{leb, ltb, eqb}
+use lib.Dec.{leb, ltb}
 use lib.ListN.{length, set, replicate}
 use lib.Seq.{getD-set-same, getD-set-other}
-use Rattle.semantics.specs.Words.{Words, word, if_then_else_, sum-below, least-below}
-use Rattle.semantics.specs.Table.{records, fields, pointers, variables, count-place, count, item-place, item, known-type, known-target, entry-type, entry-below, field-total, first-field}
+use Rattle.semantics.specs.Words.{Words, word, if_then_else_, least-below}
+use Rattle.semantics.specs.Table.{records, fields, pointers, variables, count-place, count, item, known-type, known-target, entry-type, entry-below, field-total, first-field}
 use Rattle.semantics.specs.Check.{Verdict, passes, refused, _or-else_, require, each, record-fault, field-sum-fault, field-fault, pointer-fault, variable-fault}
 use Rattle.semantics.proofs.Tests.{and-true, or-true}
 use Rattle.semantics.proofs.Lists.{sum-below-≤}

@@ -52,6 +52,13 @@ pub fn long(x: u32) -> u64
     x as u64
 }
 
+pub fn low(x: u64) -> u32
+    requires { ⌜ x < 2 ^ 32 ⌝ }
+    ensures { λ r. ⌜ r ≡ x ⌝ }
+{
+    x as u32
+}
+
 impl Section {
     // The section whose count stands at `place` and whose entries have `words` words each, or the refusal (1, 3, then 1).
     fn parse(t: &[u32], place: usize, words: usize, limit: u32) -> ParsedSection

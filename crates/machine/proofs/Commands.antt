@@ -6,19 +6,23 @@ use mathlib.Core.List.{List, _∷_}
 use native.Mathlib.Omega.{arith}
 use borrow.Author.Tests.{lt-ltb, le-leb}
 use lib.ListN.{length, set}
-use Rattle.semantics.specs.Words.{Words, if_then_else_}
-use Rattle.semantics.specs.Table.{is-pointer}
+use Rattle.semantics.specs.Words.{Words, word, if_then_else_}
+use Rattle.semantics.specs.Table.{nodes, count, is-pointer, node-type}
+use Rattle.semantics.specs.Syntax.{value-of}
 use Rattle.semantics.specs.Rules.{Datum, Location, Event, stored, State, noted, Outcome, bind, touchable, value-at, with-datum, assign-step, assign}
 use Rattle.semantics.proofs.Invariant.{Inv, permitted-used, Datum-ok, Location-ok, location-later, Good, good-ok}
+use Rattle.semantics.proofs.Passed.{section-ok}
 use Rattle.semantics.proofs.Steps.{Value-ok, place-good, value-good}
-use Rattle.evaluator.specs.Code.{code-value}
-use Rattle.evaluator.specs.Result.{failed, column, state-of, Answers, answers-ok, answers-failed, answers-full, Location-answers, Datum-answers, Ready, Place-ready, Value-ready, Place-answered, Value-answered}
+use Rattle.evaluator.specs.Lists.{column, Lists}
+use Rattle.evaluator.specs.Result.{failed, state-of, Answers, answers-ok, answers-failed, answers-full, Location-answers, Datum-answers, Ready, Place-ready, Value-ready, Value-answered, Assigned-answered}
 use Rattle.machine.specs.Command.{lists, Command-ready, Evaluates, to-store, evaluates-failed, evaluates-full, Evaluated, Stored, Command-answered}
 
 -- ---- the place and the value
 
-pub place-first : {c : Words} {m : List Words} {p v u : ℕ} → Command-ready c m p v u → Place-ready c m p u
-place-first h = record { node = h .place-node; state = h .state; tree = h .place-tree }
+module _ {l m : List Words} {p v : ℕ} {s : Words} (h : Command-ready l m p v s) where
+  pub place-first : Place-ready l m p s
+  place-first =
+      let k = h .nodes-are in record { table = h .table; lists = k .lists-of; node = k .place-node; room = h .room; state = h .state; tree = k .place-tree }
 
 state-after : {vars w b e u : ℕ} {m : List Words} {s₀ : State} {o : Outcome Location} → length (column m 0) ≤ 65536 → Location-answers m w b e u o
     → Good vars (length (column m 0)) s₀ (Location-ok vars) o → w < failed → (h : Ready m u) × (h .vars ≡ vars)
@@ -26,17 +30,19 @@ state-after {vars} most (answers-ok x log p q s small) (good-ok inv later fine) 
 state-after most (answers-failed x log h) g under = absurd (omega arith)
 state-after most (answers-full log h) g under = absurd (omega arith)
 
-pub value-next : {c : Words} {m : List Words} {p v u w b e u′ : ℕ} → Command-ready c m p v u → Place-answered c m p u w b e u′ → w < failed → Value-ready c m v u′
-value-next {c} {v = v} h answer under =
-    let after = state-after (h .state .most) (answer .meets (h .state .vars) (h .state .log) (h .state .inv) (h .place-tree)) (place-good (h .place-tree) _ (h .state .inv)) under in
-    record { node = h .value-node; state = after .0; tree = rw (after .1) (h .value-tree) }
+pub value-next : {l m : List Words} {p v w : ℕ} {s s′ : Words} → Command-ready l m p v s → Assigned-answered l m p s w s′ → w < failed → Value-ready l m v s′
+value-next h answer under =
+    let k = h .nodes-are in
+    let after = state-after (h .state .most) (answer .meets (h .table) (k .lists-of) (k .place-node) (h .state .vars) (h .state .log) (h .state .inv) (k .place-tree)) (place-good (k .place-tree) _ (h .state .inv)) under in
+    record { table = h .table; lists = k .lists-of; node = k .value-node; room = answer .room; state = after .0; tree = rw (after .1) (k .value-tree) }
 
-pub place-ended : {c : Words} {m : List Words} {p v u w at b e u′ : ℕ} → Place-answered c m p u w b e u′ → failed ≤ w → Evaluated c m p v u w at b e u′
+pub place-ended : {l m : List Words} {p v w at : ℕ} {s s′ : Words} → Assigned-answered l m p s w s′ → failed ≤ w → Evaluated l m p v s w at s′
 unfolding assign
-place-ended {c} {m} {v = v} {w = w} {at = at} {b = b} {e = e} {u′ = u′} answer over =
-    record { meets = λ vars log inv pt vt pointer. go vars pointer _ (answer .meets vars log inv pt) }
+place-ended {l} {m} {p} {v} {w} {at} {s} {s′} answer over =
+    record { room = answer .room; meets = λ t vars log inv k pointer. go vars pointer _ (answer .meets t (k .lists-of) (k .place-node) vars log inv (k .place-tree)) }
   where
-    go : (vars : ℕ) (pointer : Bool) {o : Outcome Location} (f : Location → State → Outcome (Unit {0})) → Location-answers m w b e u′ o → Evaluates pointer vars m w at b e u′ (bind o f)
+    go : (vars : ℕ) (pointer : Bool) {b e : ℕ} {o : Outcome Location} (f : Location → State → Outcome (Unit {0})) → Location-answers m w b e (word s′ 2) o
+        → Evaluates pointer vars m w at (word s′ 0) (word s′ 1) (word s′ 2) (bind o f)
     go vars pointer f (answers-ok x log p q s small) = absurd (omega arith)
     go vars pointer f (answers-failed x log h) = evaluates-failed x log h
     go vars pointer f (answers-full log h) = evaluates-full log h
@@ -48,19 +54,22 @@ with-value pointer l hl place (answers-ok x log p q s small) (good-ok inv later 
 with-value pointer l hl place (answers-failed x log h) g = evaluates-failed x log h
 with-value pointer l hl place (answers-full log h) g = evaluates-full log h
 
-with-place : {vars w at b₁ e₁ u₁ r b e u v : ℕ} {c : Words} {m : List Words} {s₀ : State} {o : Outcome Location} (pointer : Bool) → Value-ok vars (code-value c v)
-    → w < failed → at ≡ w → Location-answers m w b₁ e₁ u₁ o → Good vars (length (column m 0)) s₀ (Location-ok vars) o → Value-answered c m v u₁ r b e u
-    → Evaluates pointer vars m r at b e u (bind o (λ l s. bind (value-at (code-value c v) s) (assign-step pointer l)))
-with-place pointer tree under ha (answers-ok l log p q s small) (good-ok inv later fine) value =
-    with-value pointer l (p ∙ sym ha) fine (value .meets _ log inv tree) (value-good tree _ inv)
-with-place pointer tree under ha (answers-failed x log h) g value = absurd (omega arith)
-with-place pointer tree under ha (answers-full log h) g value = absurd (omega arith)
+with-place : {vars w at b₁ e₁ r v : ℕ} {t : Words} {l m : List Words} {s₁ s′ : Words} {s₀ : State} {o : Outcome Location} (pointer : Bool) → Lists t l → v < count t nodes → Value-ok vars (value-of t v)
+    → w < failed → at ≡ w → Location-answers m w b₁ e₁ (word s₁ 2) o → Good vars (length (column m 0)) s₀ (Location-ok vars) o → Value-answered l m v s₁ r s′
+    → Evaluates pointer vars m r at (word s′ 0) (word s′ 1) (word s′ 2) (bind o (λ k s. bind (value-at (value-of t v) s) (assign-step pointer k)))
+with-place pointer ls node tree under ha (answers-ok k log p q s small) (good-ok inv later fine) value =
+    with-value pointer k (p ∙ sym ha) fine (value .meets _ ls node _ log inv tree) (value-good tree _ inv)
+with-place pointer ls node tree under ha (answers-failed x log h) g value = absurd (omega arith)
+with-place pointer ls node tree under ha (answers-full log h) g value = absurd (omega arith)
 
-pub evaluated : {c : Words} {m : List Words} {p v u w at b₁ e₁ u₁ r b e u′ : ℕ} → Place-answered c m p u w b₁ e₁ u₁ → w < failed → at ≡ w
-    → Value-answered c m v u₁ r b e u′ → Evaluated c m p v u r at b e u′
+pub evaluated : {l m : List Words} {p v w at r : ℕ} {s s₁ s′ : Words} → Assigned-answered l m p s w s₁ → w < failed → at ≡ w → Value-answered l m v s₁ r s′ → Evaluated l m p v s r at s′
 unfolding assign
 evaluated place under ha value =
-    record { meets = λ vars log inv pt vt pointer. with-place pointer vt under ha (place .meets vars log inv pt) (place-good pt _ inv) value }
+    record {
+      room = value .room;
+      meets = λ t vars log inv k pointer.
+          with-place pointer (k .lists-of) (k .value-node) (k .value-tree) under ha (place .meets t (k .lists-of) (k .place-node) vars log inv (k .place-tree)) (place-good (k .place-tree) _ inv) value;
+    }
 
 -- ---- the store
 
@@ -81,41 +90,48 @@ stored-state w u vs bs es x ev log false hv hb he p q r = rw (hv, p, q, r)
 
 -- ---- the command
 
-pub command-ended : {c : Words} {m : List Words} {p v k u r at b e u′ : ℕ} → Evaluated c m p v u r at b e u′ → failed ≤ r → Command-answered c m p v k u r m u′
-command-ended {c} {m} {p} {v} {k} {r = r} {at = at} {b = b} {e = e} {u′ = u′} answer over =
-    record { meets = λ vars log inv pt vt. go (answer .meets vars log inv pt vt (is-pointer k)) }
+pub command-ended : {l m : List Words} {p v r at : ℕ} {s s′ : Words} → Evaluated l m p v s r at s′ → failed ≤ r → Command-answered l m p v s r m s′
+command-ended {l} {m} {p} {v} {r} {at} {s} {s′} answer over = record { room = answer .room; meets = λ t vars log inv k. go (answer .meets t vars log inv k (is-pointer (node-type t v))) }
   where
-    go : {vars : ℕ} {o : Outcome (Unit {0})} → Evaluates (is-pointer k) vars m r at b e u′ o → Answers (λ x. 0) (λ x. 0) (λ x. 0) m r 0 0 u′ o
-    go (to-store l x log hl hv hb he small inv place value) = absurd (omega arith)
+    go : {pointer : Bool} {vars : ℕ} {o : Outcome (Unit {0})} → Evaluates pointer vars m r at (word s′ 0) (word s′ 1) (word s′ 2) o → Answers (λ x. 0) (λ x. 0) (λ x. 0) m r 0 0 (word s′ 2) o
+    go (to-store k x log hl hv hb he small inv place value) = absurd (omega arith)
     go (evaluates-failed x log h) = answers-failed x log h
     go (evaluates-full log h) = answers-full log h
 
-pub store-inside : {c : Words} {m : List Words} {p v u r at b e u′ : ℕ} → Command-ready c m p v u → Evaluated c m p v u r at b e u′ → r < failed
+pub store-inside : {l m : List Words} {p v r at : ℕ} {s s′ : Words} → Command-ready l m p v s → Evaluated l m p v s r at s′ → r < failed
     → (at < length (column m 0)) × (at < length (column m 1)) × (at < length (column m 2))
-store-inside {m = m} {r = r} {at = at} {b = b} {e = e} {u′ = u′} h answer under =
-    go (answer .meets (h .state .vars) (h .state .log) (h .state .inv) (h .place-tree) (h .value-tree) true)
+store-inside {m = m} {r = r} {at = at} {s′ = s′} h answer under = go (answer .meets (h .table) (h .state .vars) (h .state .log) (h .state .inv) (h .nodes-are) true)
   where
-    go : {vars : ℕ} {o : Outcome (Unit {0})} → Evaluates true vars m r at b e u′ o → (at < length (column m 0)) × (at < length (column m 1)) × (at < length (column m 2))
-    go (to-store l x log hl hv hb he small inv place value) =
+    go : {vars : ℕ} {o : Outcome (Unit {0})} → Evaluates true vars m r at (word s′ 0) (word s′ 1) (word s′ 2) o → (at < length (column m 0)) × (at < length (column m 1)) × (at < length (column m 2))
+    go (to-store k x log hl hv hb he small inv place value) =
         omega (arith, permitted-used inv (place .permitted), inv .high, inv .values-length, inv .bases-length, inv .ends-length)
     go (evaluates-failed x log q) = absurd (omega arith)
     go (evaluates-full log q) = absurd (omega arith)
 
-pub command-done : {c vs bs es vs′ bs′ es′ : Words} {p v k u r at b e u′ : ℕ} → Evaluated c (lists vs bs es) p v u r at b e u′ → r < failed
-    → Stored k at r b e vs bs es vs′ bs′ es′ → Command-answered c (lists vs bs es) p v k u 0 (lists vs′ bs′ es′) u′
+-- The type of the value, where the command's store looks it up.
+pub type-inside : {l m : List Words} {p v : ℕ} {s : Words} → Command-ready l m p v s → (v < 512) × (v < length (column l 1))
+type-inside h =
+    let k = h .nodes-are in
+    omega (arith, k .value-node, k .lists-of .type-room, section-ok (h .table) 4 (k .lists-of .passed .types .sections 4 (omega arith)) .limited)
+
+pub command-done : {l : List Words} {vs bs es vs′ bs′ es′ : Words} {p v ty r at b e : ℕ} {s s′ : Words} → Evaluated l (lists vs bs es) p v s r at s′ → r < failed → ty ≡ word (column l 1) v
+    → b ≡ word s′ 0 → e ≡ word s′ 1 → Stored ty at r b e vs bs es vs′ bs′ es′ → Command-answered l (lists vs bs es) p v s 0 (lists vs′ bs′ es′) s′
 unfolding assign-step touchable
-command-done {c} {vs} {bs} {es} {vs′} {bs′} {es′} {p} {v} {k} {u} {r} {at} {b} {e} {u′} answer under st =
-    record { meets = λ vars log inv pt vt. go (answer .meets vars log inv pt vt (is-pointer k)) }
+command-done {l} {vs} {bs} {es} {vs′} {bs′} {es′} {p} {v} {ty} {r} {at} {b} {e} {s} {s′} answer under ht hb₀ he₀ st =
+    record { room = answer .room; meets = λ t vars log inv k. go (ht ∙ k .lists-of .type-is v (k .value-node) (k .value-sort)) (answer .meets t vars log inv k (is-pointer (node-type t v))) }
   where
-    assigned : {vars : ℕ} (l : Location) (x : Datum) (log : List Event) → l .at ≡ at → x .value ≡ r → x .base ≡ b → x .end ≡ e
-        → Inv vars (length vs) (state-of (lists vs bs es) u′ log) → Location-ok vars l (state-of (lists vs bs es) u′ log)
-        → Answers (λ x. 0) (λ x. 0) (λ x. 0) (lists vs′ bs′ es′) 0 0 0 u′ (assign-step (is-pointer k) l x (state-of (lists vs bs es) u′ log))
-    assigned l x log hl hv hb he inv place =
+    u′ : ℕ
+    u′ = word s′ 2
+
+    stores : {vars ty′ : ℕ} (k : Location) (x : Datum) (log : List Event) → ty ≡ ty′ → k .at ≡ at → x .value ≡ r → x .base ≡ word s′ 0 → x .end ≡ word s′ 1
+        → Inv vars (length vs) (state-of (lists vs bs es) u′ log) → Location-ok vars k (state-of (lists vs bs es) u′ log)
+        → Answers (λ x. 0) (λ x. 0) (λ x. 0) (lists vs′ bs′ es′) 0 0 0 u′ (assign-step (is-pointer ty′) k x (state-of (lists vs bs es) u′ log))
+    stores k x log same hl hv hb he inv place =
         let used = permitted-used inv (place .permitted) in
-        rw (hl, lt-ltb 0 at (omega (arith, used)), lt-ltb at u′ (omega (arith, used)), stored-state at u′ vs bs es x (stored at (l .access)) log (is-pointer k) hv hb he (st .values) (st .bases) (st .ends))
+        rw (← same, hl, lt-ltb 0 at (omega (arith, used)), lt-ltb at u′ (omega (arith, used)), stored-state at u′ vs bs es x (stored at (k .access)) log (is-pointer ty) hv (hb ∙ sym hb₀) (he ∙ sym he₀) (st .values) (st .bases) (st .ends))
         (answers-ok tt _ refl refl refl (omega arith))
 
-    go : {vars : ℕ} {o : Outcome (Unit {0})} → Evaluates (is-pointer k) vars (lists vs bs es) r at b e u′ o → Answers (λ x. 0) (λ x. 0) (λ x. 0) (lists vs′ bs′ es′) 0 0 0 u′ o
-    go (to-store l x log hl hv hb he small inv place value) = assigned l x log hl hv hb he inv place
-    go (evaluates-failed x log q) = absurd (omega arith)
-    go (evaluates-full log q) = absurd (omega arith)
+    go : {vars ty′ : ℕ} {o : Outcome (Unit {0})} → ty ≡ ty′ → Evaluates (is-pointer ty′) vars (lists vs bs es) r at (word s′ 0) (word s′ 1) u′ o → Answers (λ x. 0) (λ x. 0) (λ x. 0) (lists vs′ bs′ es′) 0 0 0 u′ o
+    go same (to-store k x log hl hv hb he small inv place value) = stores k x log same hl hv hb he inv place
+    go same (evaluates-failed x log q) = absurd (omega arith)
+    go same (evaluates-full log q) = absurd (omega arith)

@@ -4,25 +4,34 @@ use mathlib.Core.Bool.{Bool}
 use mathlib.Core.Path.{_≡_}
 use mathlib.Core.List.{List, [], _∷_}
 use lib.ListN.{length, set}
-use Rattle.semantics.specs.Words.{Words, if_then_else_}
-use Rattle.semantics.specs.Table.{is-pointer}
+use Rattle.semantics.specs.Words.{Words, word, if_then_else_}
+use Rattle.semantics.specs.Table.{nodes, count, is-pointer, value, sort-of, node-kind, node-type}
+use Rattle.semantics.specs.Syntax.{place-of, value-of}
 use Rattle.semantics.specs.Rules.{Datum, Location, Event, Shortfall, Outcome, fails, no-room, assign-step, assign}
 use Rattle.semantics.proofs.Invariant.{Inv, Datum-ok, Location-ok}
 use Rattle.semantics.proofs.Steps.{Place-ok, Value-ok}
-use Rattle.evaluator.specs.Code.{code-place, code-value}
-use Rattle.evaluator.specs.Result.{failed, full, column, state-of, Answers, Ready}
+use Rattle.evaluator.specs.Lists.{column, Lists}
+use Rattle.evaluator.specs.Result.{failed, full, state-of, Answers, Ready}
 
 -- Values, bases and ends.
 abbrev pub lists : Words → Words → Words → List Words
 lists vs bs es = vs ∷ bs ∷ es ∷ []
 
--- A command of place node p and value node v can be run from the state with U u.
-pub record Command-ready (c : Words) (m : List Words) (p v u : ℕ) : Type 0 where
-  pub place-node : p < 512
-  pub value-node : v < 512
-  pub state : Ready m u
-  pub place-tree : Place-ok (state .vars) (code-place c p)
-  pub value-tree : Value-ok (state .vars) (code-value c v)
+-- Nodes p and v, a place and a value, of the table t that has the lists l.
+pub record Command-nodes (t : Words) (l : List Words) (p v vars : ℕ) : Type 0 where
+  pub lists-of : Lists t l
+  pub place-node : p < count t nodes
+  pub value-node : v < count t nodes
+  pub place-tree : Place-ok vars (place-of t p)
+  pub value-tree : Value-ok vars (value-of t v)
+  pub value-sort : sort-of (node-kind t v) ≡ value
+
+-- A command of place node p and value node v can be run from the state with U in s.
+pub record Command-ready (l m : List Words) (p v : ℕ) (s : Words) : Type 0 where
+  pub table : Words
+  pub room : length s ≡ 3
+  pub state : Ready m (word s 2)
+  pub nodes-are : Command-nodes table l p v (state .vars)
 
 -- An outcome comes down to the store of r with base b and end e at word w, or is how evaluation ended.
 pub data Evaluates (pointer : Bool) (vars : ℕ) (m : List Words) (r w b e u : ℕ) : Outcome (Unit {0}) → Type 0 where
@@ -32,9 +41,11 @@ pub data Evaluates (pointer : Bool) (vars : ℕ) (m : List Words) (r w b e u : �
   evaluates-failed : (x : Shortfall) (log : List Event) → r ≡ failed → Evaluates pointer vars m r w b e u (fails x (state-of m u log))
   evaluates-full : (log : List Event) → r ≡ full → Evaluates pointer vars m r w b e u (no-room (state-of m u log))
 
-pub record Evaluated (c : Words) (m : List Words) (p v u r w b e u′ : ℕ) : Type 0 where
-  pub meets : (vars : ℕ) (log : List Event) → Inv vars (length (column m 0)) (state-of m u log) → Place-ok vars (code-place c p) → Value-ok vars (code-value c v)
-      → (pointer : Bool) → Evaluates pointer vars m r w b e u′ (assign pointer (code-place c p) (code-value c v) (state-of m u log))
+-- Base and end are in s′, beside U.
+pub record Evaluated (l m : List Words) (p v : ℕ) (s : Words) (r w : ℕ) (s′ : Words) : Type 0 where
+  pub room : length s′ ≡ 3
+  pub meets : (t : Words) (vars : ℕ) (log : List Event) → Inv vars (length (column m 0)) (state-of m (word s 2) log) → Command-nodes t l p v vars
+      → (pointer : Bool) → Evaluates pointer vars m r w (word s′ 0) (word s′ 1) (word s′ 2) (assign pointer (place-of t p) (value-of t v) (state-of m (word s 2) log))
 
 -- The lists after a store at word w: base and end only where the type is a pointer's.
 pub record Stored (pointer w v b e : ℕ) (vs bs es vs′ bs′ es′ : Words) : Type 0 where
@@ -42,7 +53,8 @@ pub record Stored (pointer w v b e : ℕ) (vs bs es vs′ bs′ es′ : Words) :
   pub bases : bs′ ≡ (if is-pointer pointer then set bs w b else bs)
   pub ends : es′ ≡ (if is-pointer pointer then set es w e else es)
 
--- What a command answers: 0 where it is done, else how it ended; the lists m′ and U u′ are those that the rules leave.
-pub record Command-answered (c : Words) (m : List Words) (p v pointer u r : ℕ) (m′ : List Words) (u′ : ℕ) : Type 0 where
-  pub meets : (vars : ℕ) (log : List Event) → Inv vars (length (column m 0)) (state-of m u log) → Place-ok vars (code-place c p) → Value-ok vars (code-value c v)
-      → Answers (λ x. 0) (λ x. 0) (λ x. 0) m′ r 0 0 u′ (assign (is-pointer pointer) (code-place c p) (code-value c v) (state-of m u log))
+-- What a command answers: 0 where it is done, else how it ended; the lists m′ and U in s′ are those that the rules leave.
+pub record Command-answered (l m : List Words) (p v : ℕ) (s : Words) (r : ℕ) (m′ : List Words) (s′ : Words) : Type 0 where
+  pub room : length s′ ≡ 3
+  pub meets : (t : Words) (vars : ℕ) (log : List Event) → Inv vars (length (column m 0)) (state-of m (word s 2) log) → Command-nodes t l p v vars
+      → Answers (λ x. 0) (λ x. 0) (λ x. 0) m′ r 0 0 (word s′ 2) (assign (is-pointer (node-type t v)) (place-of t p) (value-of t v) (state-of m (word s 2) log))

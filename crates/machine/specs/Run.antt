@@ -1,18 +1,20 @@
 -- A whole call: the answer's enum as the paper's numbers and values, and what the lists hold afterwards.
-use Prim.Native.Nat.{ℕ, _+_, _<_, _≤_}
+use Prim.Native.Nat.{ℕ, _+_, _≤_}
 use mathlib.Core.Path.{_≡_}
-use mathlib.Core.List.{[]}
+use mathlib.Core.List.{List, []}
 use lib.ListN.{length}
-use Rattle.semantics.specs.Words.{Words, word}
-use Rattle.semantics.specs.Table.{variables, nodes, commands, count-place, count, node-type}
+use Rattle.semantics.specs.Words.{Words}
+use Rattle.semantics.specs.Table.{variables, commands, count-place, count}
 use Rattle.semantics.specs.Check.{check, passes}
-use Rattle.semantics.specs.Syntax.{tree-of}
 use Rattle.semantics.specs.Rules.{State}
 use Rattle.semantics.specs.Run as semantics
 use Rattle.semantics.specs.Run.{refusal, ending, done, abort, out-of-memory, Result, result-of, commands-below}
 use Rattle.semantics.proofs.Invariant.{Inv}
-use Rattle.evaluator.specs.Code.{code-tree}
+use Rattle.evaluator.specs.Lists.{Lists}
 use Rattle.evaluator.specs.Result.{state-of}
+use Rattle.layout.specs.Layout.{layout}
+use Rattle.layout.specs.declared.Table.{Table}
+use Rattle.table.specs.Promises.{Left}
 use Rattle.machine.specs.Command.{lists}
 use Rattle.machine.specs.declared.Answer.{Answer}
 use Rattle.machine.specs.declared.Answer.the-variants.{Refused, Done, Abort, NoRoom}
@@ -31,15 +33,21 @@ pub record Is (result : Result) (r : Answer) (vs bs es : Words) : Type 0 where
   pub bases : bs ≡ result .bases
   pub ends : es ≡ result .ends
 
--- The table passes the check, and code and types hold its nodes.
-pub record Program (t code types : Words) : Type 0 where
+-- The table passes the check, which has left these lists.
+pub record Program (t first before notes : Words) : Type 0 where
   pub passed : check t ≡ passes
-  pub typed : (n : ℕ) → n < count t nodes → word types n ≡ node-type t n
-  pub coded : (n : ℕ) → n < count t nodes → code-tree code n ≡ tree-of t n
+  pub left : Left t first before notes
 
--- The commands stand at `at`, and the lists hold a state that a run of the table can begin with.
-pub record Executable (t code types : Words) (at total u : ℕ) (vs bs es : Words) : Type 0 where
-  pub program : Program t code types
+-- The table's layout, and lists that hold a state which a run of the table can begin with.
+pub record Startable (t : Words) (l : Table) (first before notes vs bs es : Words) : Type 0 where
+  pub program : Program t first before notes
+  pub layout-is : l ≡ layout t
+  pub inv : Inv (count t variables) (length vs) (state-of (lists vs bs es) (count t variables + 1) [])
+  pub most : length vs ≤ 65536
+
+-- The commands stand at `at`, l are the table's lists, and the three lists hold a state that a run of the table can begin with.
+pub record Executable (t : Words) (l : List Words) (at total u : ℕ) (vs bs es : Words) : Type 0 where
+  pub lists-of : Lists t l
   pub first : at ≡ count-place t commands + 1
   pub all : total ≡ count t commands
   pub inv : Inv (count t variables) (length vs) (state-of (lists vs bs es) u [])

@@ -1,4 +1,4 @@
 -- Laws that the proofs of the functions share.
-pub mod Sorts
 pub mod Lookups
+pub mod Sorts
 pub mod Answers

@@ -1,22 +1,20 @@
 -- Laws of what is looked up: targets, fields, sizes and offsets.
-use Prim.Native.Nat.{ℕ, zero, suc, _+_, _*_, _-_, _≤_, _<_}
+use Prim.Native.Nat.{ℕ, _+_, _*_, _-_, _≤_, _<_}
 use mathlib.Core.Bool.{true, false}
 use mathlib.Core.Path.{_≡_, _∙_, ap}
-use mathlib.Core.Logic.{⊎-elim}
 use native.Mathlib.Omega.{arith}
 use borrow.Author.Tests.{lt-ltb, le-ltb, le-leb, lt-leb, ltb-true, eqb-true}
-use lib.Dec.{leb, ltb, eqb}
+use lib.Dec.{eqb}
 use lib.ListN.{length}
-use Rattle.semantics.specs.Words.{Words, word, sum-below}
-use Rattle.semantics.specs.Table.{entry-words, fields, count-place, count, item-place, item, is-pointer, entry-type, known-type, known-target, target, points-to-type, points-to-record, pointed-record, entry-below, field-total, first-field, field-type, field-offset, field-count, size-of}
+use Rattle.semantics.specs.Words.{Words, word}
+use Rattle.semantics.specs.Table.{entry-words, fields, count-place, count, item-place, item, entry-type, known-type, known-target, target, points-to-type, points-to-record, pointed-record, entry-below, field-total, first-field, field-type}
 use Rattle.semantics.specs.Check.{field-sum-fault, require}
 use Rattle.semantics.proofs.Passed.{Types-passed, section-ok, require-passes, record-known}
-use Rattle.semantics.proofs.Tests.{and-true, or-true}
-use Rattle.layout.specs.Types.{words-before, mark-below}
+use Rattle.layout.specs.Types.{mark-below}
 use Rattle.layout.proofs.Laws.{sum-more}
 use Rattle.layout.proofs.Types.{first-≤}
-use Rattle.nodes.specs.Nodes.{with-code, code, field-found}
-use Rattle.nodes.specs.Promises.{Target-at, Sized}
+use Rattle.nodes.specs.Nodes.{field-found}
+use Rattle.nodes.specs.Promises.{Target-at, Fields-at}
 use Rattle.nodes.specs.declared.Typed.the-variants.{Is, Refused}
 
 -- The entries of a section stand in the table.
@@ -70,23 +68,6 @@ module _ (t : Words) (ty : ℕ) where
     unfolding points-to-record
     type-no-record h = rw (le-leb 2 ty entry, lt-leb 65536 (target t ty) h)
 
-pub int-no-pointer : (ty : ℕ) → ty ≡ 0 → is-pointer ty ≡ false
-unfolding is-pointer
-int-no-pointer ty e = rw e
-
-pub other-pointer : (ty : ℕ) → (ty ≡ 0 → ⊥) → is-pointer ty ≡ true
-unfolding is-pointer
-other-pointer ty h = le-leb 1 ty (omega (arith, h))
-
--- A known target is below the last record's.
-pub known-below : {t : Words} → Types-passed t → (x : ℕ) → known-target t x ≡ true → x < 65536 + count t 0
-unfolding known-target known-type
-known-below {t} ok x k =
-    ⊎-elim
-    (λ e. omega (arith, ltb-true x (2 + count t 2) e, few-pointers ok))
-    (λ e. ltb-true x (65536 + count t 0) (and-true (leb 65536 x) (ltb x (65536 + count t 0)) e .1))
-    (or-true (ltb x (2 + count t 2)) _ k)
-
 -- A known type is a known target.
 pub type-target : (t : Words) (x : ℕ) → known-type t x ≡ true → known-target t x ≡ true
 unfolding known-target
@@ -104,66 +85,38 @@ mark-entry t n x h = rw (lt-ltb (entry-below t n x) n h)
 
 -- ---- records
 
--- A field's offset is the difference of the words before it and before the record's first.
-offset : (t : Words) (r f : ℕ) → words-before t (first-field t r + f) ≡ words-before t (first-field t r) + field-offset t r f
-unfolding words-before field-offset field-count sum-below
-offset t r zero =
-    let e : first-field t r + 0 ≡ first-field t r = omega arith in
-    rw e (omega arith)
-offset t r (suc f) =
-    let e : first-field t r + suc f ≡ suc (first-field t r + f) = omega arith in
-    rw e (omega (arith, offset t r f))
-
--- Record r as the two lists have it.
-pub record Record-at (t first before : Words) (r : ℕ) : Type 0 where
+-- Record r as the list has it.
+pub record Record-at (t first : Words) (at r : ℕ) : Type 0 where
   pub few : r < 32
   pub start : word first r ≡ first-field t r
   pub next : word first (r + 1) ≡ first-field t r + field-total t r
-  pub inside : first-field t r + field-total t r ≤ count t 1
-  pub most : count t 1 ≤ 128
-  pub before-start : word before (first-field t r) ≡ words-before t (first-field t r)
-  pub before-field : (f : ℕ) → f ≤ field-total t r → word before (first-field t r + f) ≡ words-before t (first-field t r) + field-offset t r f
+  pub inside : at + 2 * (first-field t r + field-total t r) ≤ length t
+  pub most : first-field t r + field-total t r ≤ 128
 
-pub record-at : {t first before : Words} {records : ℕ} → Sized t first before records → (r : ℕ) → r < records → Record-at t first before r
+pub record-at : {t first : Words} {at : ℕ} → Fields-at t first at → (r : ℕ) → r < count t 0 → Record-at t first at r
 unfolding first-field field-sum-fault
-record-at {t} {records = records} h r less =
+record-at {t} h r less =
     let ok = h .types-pass in
     let more : first-field t (r + 1) ≡ first-field t r + field-total t r = sum-more (field-total t) r in
     let all = eqb-true (first-field t (count t 0)) (count t 1) (require-passes (eqb (first-field t (count t 0)) (count t 1)) _ _ (ok .field-sum)) in
-    let inside : first-field t r + field-total t r ≤ count t 1 = omega (arith, more, all, first-≤ t (r + 1) (count t 0) (omega (arith, h .total))) in
+    let inside : first-field t r + field-total t r ≤ count t 1 = omega (arith, more, all, first-≤ t (r + 1) (count t 0) (omega arith)) in
     record {
-      few = omega (arith, h .total, few-records ok);
-      start = h .firsts .holds r (omega (arith, h .total));
-      next = h .firsts .holds (r + 1) (omega (arith, h .total)) ∙ more;
-      inside = inside;
-      most = few-fields ok;
-      before-start = h .befores .holds (first-field t r) (omega arith);
-      before-field = λ f l. h .befores .holds (first-field t r + f) (omega arith) ∙ offset t r f;
+      few = omega (arith, few-records ok);
+      start = h .firsts .holds r (omega arith);
+      next = h .firsts .holds (r + 1) (omega arith) ∙ more;
+      inside = omega (arith, inside, h .start, extent ok 1 (omega arith));
+      most = omega (arith, inside, few-fields ok);
     }
 
-pub size-type : (t : Words) (x : ℕ) → x < 65536 → 1 ≡ size-of t x
-unfolding size-of
-size-type t x h = rw (lt-ltb x 65536 h)
-
-pub size-record : (t : Words) (x r v : ℕ) → 65536 ≤ x → r ≡ x - 65536 → v ≡ field-offset t r (field-total t r) → v ≡ size-of t x
-unfolding size-of
-size-record t x r v h e q = rw (le-ltb x 65536 h, ← e) q
-
 -- Field f of record r stands at place at.
-module _ (t : Words) (fields r f at : ℕ) (first : fields ≡ count-place t 1 + 1) (e : at ≡ fields + 2 * (first-field t r + f)) where
-  pub field-type-at : field-type t r f ≡ word t at
-  unfolding field-type item item-place
-  field-type-at = ap (word t) (omega arith)
+pub field-type-at : (t : Words) (fields r f at : ℕ) → fields ≡ count-place t 1 + 1 → at ≡ fields + 2 * (first-field t r + f) → field-type t r f ≡ word t at
+unfolding field-type item item-place
+field-type-at t fields r f at first e = ap (word t) (omega arith)
 
-  pub field-count-at : field-count t r f ≡ word t (at + 1)
-  unfolding field-count item item-place
-  field-count-at = ap (word t) (omega arith)
-
-pub no-field : (t : Words) (r f a p : ℕ) → field-total t r ≤ f → Refused 8 p ≡ field-found t r f a p
+pub no-field : (t : Words) (r f p : ℕ) → field-total t r ≤ f → Refused 8 p ≡ field-found t r f p
 unfolding field-found require
-no-field t r f a p h = rw (le-ltb f (field-total t r) h)
+no-field t r f p h = rw (le-ltb f (field-total t r) h)
 
-pub field-is : (t : Words) (r f a p ty offset words : ℕ) → f < field-total t r → ty ≡ field-type t r f → offset ≡ field-offset t r f → words ≡ field-count t r f
-    → Is (with-code ty (code a offset words) 1) ≡ field-found t r f a p
+pub field-is : (t : Words) (r f p ty : ℕ) → f < field-total t r → ty ≡ field-type t r f → Is ty ≡ field-found t r f p
 unfolding field-found require
-field-is t r f a p ty offset words h e₁ e₂ e₃ = rw (lt-ltb f (field-total t r) h, e₁, e₂, e₃)
+field-is t r f p ty h e = rw (lt-ltb f (field-total t r) h, e)

@@ -1,34 +1,41 @@
--- What the functions of this crate require.
-use Prim.Native.Nat.{ℕ, _+_, _*_, _≤_, _<_}
+-- What the functions of this crate require and promise.
+use Prim.Native.Nat.{ℕ, _+_, _≤_, _<_}
 use mathlib.Core.Bool.{true}
 use mathlib.Core.Path.{_≡_}
 use lib.ListN.{length}
 use Rattle.semantics.specs.Words.{Words, word}
-use Rattle.semantics.specs.Table.{records, fields, pointers, variables, nodes, count-place, count, item-place, known-type, first-field, node-type}
-use Rattle.semantics.specs.Check.{passes, each, node-fault}
+use Rattle.semantics.specs.Table.{records, fields, pointers, variables, nodes, count-place, count, item-place, known-type, first-field, sort-of, kind-of, children}
+use Rattle.semantics.specs.Check.{Verdict, passes, refused, each, node-fault, occurrences}
 use Rattle.semantics.proofs.Passed.{Types-passed}
-use Rattle.layout.specs.Layout.{Stands}
-use Rattle.layout.specs.Types.{words-before, Tabulated, Looked-up}
+use Rattle.layout.specs.Layout.{verdict-of, Stands}
+use Rattle.layout.specs.Types.{Tabulated, Marks}
 use Rattle.layout.specs.declared.Section.{Section}
+use Rattle.layout.specs.declared.Verdict as answer
+use Rattle.nodes.specs.declared.Typed.{Typed}
+use Rattle.nodes.specs.declared.Typed.the-variants.{Is, Refused}
+use Rattle.nodes.specs.Nodes.{sort-number, note}
 
--- The first n nodes stand in the table from place nodes on.
-pub record Nodes-to (t : Words) (nodes n : ℕ) : Type 0 where
-  pub first : nodes ≡ count-place t 4 + 1
-  pub extent : nodes + 3 * n ≤ length t
+-- The types in sections 1 to 4 and the nodes before n pass, and the list has the notes of these nodes.
+pub record Noted-to (t notes : Words) (n : ℕ) : Type 0 where
+  pub types-pass : Types-passed t
+  pub nodes-pass : each n (node-fault t) ≡ passes
+  pub noted : (i : ℕ) → i < n → word notes i ≡ note t i
 
 -- Node n stands at place.
 pub record Placed (t : Words) (n place : ℕ) : Type 0 where
   pub here : place ≡ item-place t nodes n 0
 
--- The types in sections 1 to 4 and the nodes before n pass; node n stands at place, and the list has the types before it.
-pub record Reached (t : Words) (nodes n place : ℕ) (types : Words) : Type 0 where
-  pub nodes-to : Nodes-to t nodes n
-  pub here : place ≡ nodes + 3 * n
+-- Node n stands at place, and what is before it is noted.
+pub record Reached (t notes : Words) (n place : ℕ) : Type 0 where
+  pub noted-to : Noted-to t notes n
+  pub here : place ≡ item-place t nodes n 0
   pub inside : place + 3 ≤ length t
   pub few : n < 512
-  pub types-pass : Types-passed t
-  pub nodes-pass : each n (node-fault t) ≡ passes
-  pub typed : (i : ℕ) → i < n → word types i ≡ node-type t i
+
+-- It is so in some table.
+pub record Reaches (notes : Words) (n place : ℕ) : Type 0 where
+  pub table : Words
+  pub reached : Reached table notes n place
 
 -- A known type that is a pointer entry, and the place of the first entry.
 pub record Target-at (t : Words) (targets ty : ℕ) : Type 0 where
@@ -37,28 +44,68 @@ pub record Target-at (t : Words) (targets ty : ℕ) : Type 0 where
   pub known : known-type t ty ≡ true
   pub entry : 2 ≤ ty
 
--- The lists that sizes and offsets are looked up in.
-pub record Sized (t first before : Words) (records : ℕ) : Type 0 where
-  pub total : records ≡ count t 0
+-- The list has the first field of each record, and the place of the first field.
+pub record Fields-at (t first : Words) (at : ℕ) : Type 0 where
   pub types-pass : Types-passed t
-  pub firsts : Tabulated first (count t 0) (first-field t)
-  pub befores : Tabulated before (count t 1) (words-before t)
-
--- They are those of some table.
-pub record Sizes (first before : Words) (records : ℕ) : Type 0 where
-  pub table : Words
-  pub sized : Sized table first before records
-
--- They are those of some table with so many pointers.
-pub record Targets (first before : Words) (records pointers : ℕ) : Type 0 where
-  pub table : Words
-  pub sized : Sized table first before records
-  pub pointer-total : pointers ≡ count table 2
+  pub firsts : Tabulated first (count t records) (first-field t)
+  pub start : at ≡ count-place t fields + 1
 
 -- All that a node's check looks up.
-pub record Lookups (t first before entry : Words) (records fields : ℕ) (pointers variables : Section) : Type 0 where
-  pub record-total : records ≡ count t 0
-  pub field-first : fields ≡ count-place t 1 + 1
-  pub pointers-stand : Stands t 2 pointers
-  pub variables-stand : Stands t 3 variables
-  pub looked-up : Looked-up t first before entry
+pub record Lookups (t first entry : Words) (record-total field-at : ℕ) (pointer-section variable-section : Section) : Type 0 where
+  pub record-count : record-total ≡ count t records
+  pub fields-at : Fields-at t first field-at
+  pub pointers-stand : Stands t pointers pointer-section
+  pub variables-stand : Stands t variables variable-section
+  pub marks : Marks t entry (count t pointers)
+
+-- ---- what a node leaves
+
+-- The verdict of an answer.
+abbrev pub typed-verdict : Typed → Verdict
+typed-verdict (Is ty) = passes
+typed-verdict (Refused n p) = refused n p
+
+-- An answer's type is so small that there is room for a note.
+pub record Small (x : Typed) : Type 0 where
+  pub type-small : (ty : ℕ) → x ≡ Is ty → ty < 128
+
+-- The note v of node n is added, and what stands before it is kept.
+pub record Entered (notes notes′ : Words) (n v : ℕ) : Type 0 where
+  pub all : length notes′ ≡ length notes
+  pub kept : (m : ℕ) → m < n → word notes′ m ≡ word notes m
+  pub added : word notes′ n ≡ v
+
+-- Each count rises by the occurrences in the list.
+pub record Counted (used used′ l : Words) : Type 0 where
+  pub all : length used′ ≡ length used
+  pub more : (i : ℕ) → word used′ i ≡ word used i + occurrences i l
+
+-- A use of node x can be counted.
+pub record Countable (used : Words) (x : ℕ) : Type 0 where
+  pub room : length used ≡ 512
+  pub inside : x < 512
+  pub few : word used x < 4096
+
+-- And one of node y after it.
+pub record Countable-both (used : Words) (x y : ℕ) : Type 0 where
+  pub first : Countable used x
+  pub inside : y < 512
+  pub few : word used y < 4095
+
+-- There is room for each note, and to count two more uses of each node.
+pub record Room (notes used : Words) : Type 0 where
+  pub notes-length : length notes ≡ 512
+  pub uses-length : length used ≡ 512
+  pub few : (i : ℕ) → word used i < 4095
+
+-- The answer x to a node of a kind with this number is told, its note added, and its uses of the children l counted.
+pub record Told (x : Typed) (kind n : ℕ) (l : Words) (r : answer.Verdict) (notes notes′ used used′ : Words) : Type 0 where
+  pub verdict : verdict-of r ≡ typed-verdict x
+  pub entered : (ty : ℕ) → x ≡ Is ty → Entered notes notes′ n (ty + sort-number (sort-of (kind-of kind)))
+  pub counted : (ty : ℕ) → x ≡ Is ty → Counted used used′ l
+
+-- The whole check of node n: where it passes, its note is added and its uses of children are counted.
+pub record Noted (t : Words) (n : ℕ) (r : answer.Verdict) (notes notes′ used used′ : Words) : Type 0 where
+  pub verdict : verdict-of r ≡ node-fault t n
+  pub entered : node-fault t n ≡ passes → Entered notes notes′ n (note t n)
+  pub counted : node-fault t n ≡ passes → Counted used used′ (children t n)

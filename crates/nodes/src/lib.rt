@@ -1,29 +1,31 @@
-// The check of one node, and what it finds: the node's type and its words for the evaluator.
-// Parameters: `records` and `pointers` are counts; `targets`, `fields` and `nodes` are the places of the first pointer, field and
-// node; `place` is that of node `n`, whose two other words are `a` and `b`. What is looked up, and where, says the crate layout.
+// The check of one node: its verdict, the note of its type and sort, and its uses of other nodes.
+// Parameters: `records` and `pointers` are counts; `targets` and `fields` are the places of the first pointer and the first field;
+// `place` is that of node `n`, whose two other words are `a` and `b`; `notes` has the notes of the nodes before it.
 ghost use mathlib.Core.Path.{_≡_};
-ghost use mathlib.Core.Bool.{_&&_};
-ghost use Prim.Native.Nat.{ℕ, _+_, _<_, _≤_, _^_};
+ghost use mathlib.Core.Bool.{true};
+ghost use mathlib.Core.List.{[], _∷_};
+ghost use Prim.Native.Nat.{ℕ, _+_, _<_, _≤_, _^_, _%_};
 ghost use lib.Dec.{eqb};
 ghost use lib.ListN.{length};
-ghost use Rattle.semantics.specs.Words.{Words, if_then_else_};
-ghost use Rattle.semantics.specs.Table.{count-place, count, is-pointer, target, size-of, Sort, sort-of, kind-of, deref, field, variable, constant, sum, read, address, cast, size, malloc};
-ghost use Rattle.semantics.specs.Check.{require, _or-else_, is-child};
+ghost use Rattle.semantics.specs.Words.{Words, word};
+ghost use Rattle.semantics.specs.Table.{count-place, count, target, Sort, sort-of, kind-of, deref, field, variable, constant, sum, read, address, cast, size, malloc};
+ghost use Rattle.semantics.specs.Check.{passes, require, _or-else_, is-child};
 ghost use Rattle.layout.specs.Layout.{verdict-of, Stands};
 ghost use Rattle.layout.specs.Types.{Marks};
-ghost use Rattle.nodes.specs.Nodes.{sort-number, typed-kind, node-typed, field-found};
-ghost use Rattle.nodes.specs.Promises.{Nodes-to, Placed, Reached, Target-at, Sized, Sizes, Targets, Lookups};
+ghost use Rattle.layout.specs.declared.Verdict.the-variants.{Passes};
+ghost use Rattle.nodes.specs.Nodes.{sort-number, typed-kind, field-found};
+ghost use Rattle.nodes.specs.Promises.{Noted-to, Placed, Reached, Reaches, Target-at, Fields-at, Lookups, typed-verdict, Small, Counted, Countable, Countable-both, Room, Told, Noted};
 use layout::Section;
 use layout::Table;
 use layout::Verdict;
 use layout::index;
 
-// Sorts of kinds.
-const NEITHER: u32 = 0;
+// A note is a type and the sort of the node's kind. Types are below 128.
+pub const VALUE: u32 = 0;
 
-pub const PLACE: u32 = 1;
+pub const PLACE: u32 = 128;
 
-pub const VALUE: u32 = 2;
+const NEITHER: u32 = 256;
 
 // Types: int, then the pointer to void, then the pointer entries.
 const INT: u32 = 0;
@@ -32,17 +34,9 @@ const VOID: u32 = 1;
 
 const ENTRY: u32 = 2;
 
-// A node that passes: its type, its words for the evaluator after the kind, and how many children it has, a before b.
-pub struct Elaborated {
-    pub ty: u32,
-    pub x: u32,
-    pub y: u32,
-    pub z: u32,
-    pub children: u32,
-}
-
+// The type of a node that passes, or the refusal.
 pub enum Typed {
-    Is(Elaborated),
+    Is(u32),
     Refused(u32, usize),
 }
 
@@ -58,32 +52,36 @@ fn sort(kind: u32) -> u32
 }
 
 // x is a node below n of the sort wanted.
-pub fn is_child(t: &[u32], nodes: usize, n: usize, x: u32, wanted: u32) -> bool
-    requires { ⌜ Nodes-to (now t) nodes n ⌝ }
-    ensures { λ r. ⌜ ((s : Sort) → wanted ≡ sort-number s → r ≡ is-child (now (t .entry)) s n x) ⌝ }
+pub fn is_child(notes: &[u32; 512], n: usize, x: u32, wanted: u32) -> bool
+    requires { ⌜ n ≤ 512 ⌝ }
+    ensures below { λ r. ⌜ (r ≡ true → x < n) ⌝ }
+    ensures sorted { λ r. ⌜ ((t : Words) (s : Sort) → Noted-to t (now (notes .entry)) n → wanted ≡ sort-number s → r ≡ is-child t s n x) ⌝ }
 {
     let i = index(x);
-    if i < n {
-        sort(t[nodes + 3 * i]) == wanted
-    } else {
-        false
+    if n <= i {
+        return false;
     }
+    if notes[i] < PLACE {
+        return wanted == VALUE;
+    }
+    wanted == PLACE
+}
+
+// The type in a note.
+pub fn type_of(notes: &[u32; 512], x: u32) -> u32
+    requires { ⌜ x < 512 ⌝ }
+    ensures { λ r. ⌜ r ≡ word (now (notes .entry)) x % 128 ⌝ }
+{
+    notes[index(x)] % PLACE
 }
 
 // 7 for an a that is no child of the sort wanted, then for a b that isn't 0.
-fn only_child(
-    t: &[u32],
-    nodes: usize,
-    n: usize,
-    place: usize,
-    a: u32,
-    b: u32,
-    wanted: u32,
-) -> Verdict
-    requires { ⌜ (Nodes-to (now t) nodes n) × (place + 3 ≤ length (now t)) ⌝ }
-    ensures { λ r. ⌜ ((s : Sort) → wanted ≡ sort-number s → verdict-of r ≡ require (is-child (now (t .entry)) s n a) 7 (place + 1) or-else require (eqb b 0) 7 (place + 2)) ⌝ }
+fn only_child(notes: &[u32; 512], n: usize, place: usize, a: u32, b: u32, wanted: u32) -> Verdict
+    requires { ⌜ (n ≤ 512) × (place + 2 < 2 ^ 64) ⌝ }
+    ensures below { λ r. ⌜ (r ≡ Passes → a < n) ⌝ }
+    ensures faults { λ r. ⌜ ((t : Words) (s : Sort) → Noted-to t (now (notes .entry)) n → wanted ≡ sort-number s → verdict-of r ≡ require (is-child t s n a) 7 (place + 1) or-else require (eqb b 0) 7 (place + 2)) ⌝ }
 {
-    if !is_child(t, nodes, n, a, wanted) {
+    if !is_child(notes, n, a, wanted) {
         return Verdict::Refused(7, place + 1);
     }
     if b != 0 {
@@ -98,32 +96,6 @@ fn target(t: &[u32], targets: usize, ty: u32) -> u32
     ensures { λ r. ⌜ r ≡ target (now (t .entry)) ty ⌝ }
 {
     t[targets + (index(ty) - 2)]
-}
-
-// The words of a record, or of a type.
-fn size_of(first: &[u32; 33], before: &[u32; 129], records: usize, x: u32) -> u32
-    requires { ⌜ Sizes (now first) (now before) records ⌝ }
-    requires { ⌜ x < 65536 + records ⌝ }
-    ensures { λ r. ⌜ ((t : Words) → Sized t (now (first .entry)) (now (before .entry)) records → r ≡ size-of t x) ⌝ }
-{
-    if x < Table::RECORD {
-        return 1;
-    }
-    let r = index(x - Table::RECORD);
-    before[index(first[r + 1])] - before[index(first[r])]
-}
-
-// Whether a cast keeps bounds: from pointer to pointer.
-fn keeps(from: u32, to: u32) -> u32
-    ensures { λ r. ⌜ r ≡ if is-pointer from && is-pointer to then 1 else 0 ⌝ }
-{
-    if from == INT {
-        return 0;
-    }
-    if to == INT {
-        return 0;
-    }
-    1
 }
 
 // The functions below check a node of one kind: its two other words (7 or 5), then its types (8). They are named as the rules
@@ -141,32 +113,25 @@ fn variable(t: &[u32], variables: Section, place: usize, a: u32, b: u32) -> Type
     if b != 0 {
         return Typed::Refused(7, place + 2);
     }
-    Typed::Is(Elaborated {
-        ty: t[at + i],
-        x: a,
-        y: 0,
-        z: 0,
-        children: 0,
-    })
+    Typed::Is(t[at + i])
 }
 
 fn deref(
     t: &[u32],
-    types: &[u32; 512],
+    notes: &[u32; 512],
     targets: usize,
-    nodes: usize,
     n: usize,
     place: usize,
     a: u32,
     b: u32,
 ) -> Typed
-    requires { ⌜ (Reached (now t) nodes n place (now types)) × (targets ≡ count-place (now t) 2 + 1) ⌝ }
+    requires { ⌜ (Reached (now t) (now notes) n place) × (targets ≡ count-place (now t) 2 + 1) ⌝ }
     ensures { λ r. ⌜ r ≡ typed-kind (now (t .entry)) n deref a b ⌝ }
 {
-    if let Verdict::Refused(r, p) = only_child(t, nodes, n, place, a, b, VALUE) {
+    if let Verdict::Refused(r, p) = only_child(notes, n, place, a, b, VALUE) {
         return Typed::Refused(r, p);
     }
-    let pointer = types[index(a)];
+    let pointer = type_of(notes, a);
     if pointer < ENTRY {
         return Typed::Refused(8, place);
     }
@@ -174,68 +139,46 @@ fn deref(
     if Table::RECORD <= ty {
         return Typed::Refused(8, place);
     }
-    Typed::Is(Elaborated {
-        ty,
-        x: a,
-        y: 0,
-        z: 0,
-        children: 1,
-    })
+    Typed::Is(ty)
 }
 
 // Field b of record r, or 8.
 fn record_field(
     t: &[u32],
     first: &[u32; 33],
-    before: &[u32; 129],
-    records: usize,
     fields: usize,
     r: usize,
     place: usize,
-    a: u32,
     b: u32,
 ) -> Typed
-    requires { ⌜ (Sized (now t) (now first) (now before) records) × (fields ≡ count-place (now t) 1 + 1) × (r < records) ⌝ }
-    ensures { λ x. ⌜ x ≡ field-found (now (t .entry)) r b a place ⌝ }
+    requires { ⌜ (Fields-at (now t) (now first) fields) × (r < count (now t) 0) ⌝ }
+    ensures { λ x. ⌜ x ≡ field-found (now (t .entry)) r b place ⌝ }
 {
-    let start = index(first[r]);
-    let end = index(first[r + 1]);
-    let f = start + index(b);
-    if end <= f {
+    let f = index(first[r]) + index(b);
+    if index(first[r + 1]) <= f {
         return Typed::Refused(8, place);
     }
-    let at = fields + 2 * f;
-    Typed::Is(Elaborated {
-        ty: t[at],
-        x: a,
-        y: before[f] - before[start],
-        z: t[at + 1],
-        children: 1,
-    })
+    Typed::Is(t[fields + 2 * f])
 }
 
 fn field(
     t: &[u32],
-    types: &[u32; 512],
+    notes: &[u32; 512],
     first: &[u32; 33],
-    before: &[u32; 129],
-    records: usize,
     fields: usize,
     targets: usize,
-    nodes: usize,
     n: usize,
     place: usize,
     a: u32,
     b: u32,
 ) -> Typed
-    requires { ⌜ (Reached (now t) nodes n place (now types)) × (targets ≡ count-place (now t) 2 + 1) ⌝ }
-    requires { ⌜ (Sized (now t) (now first) (now before) records) × (fields ≡ count-place (now t) 1 + 1) ⌝ }
+    requires { ⌜ (Reached (now t) (now notes) n place) × (targets ≡ count-place (now t) 2 + 1) × (Fields-at (now t) (now first) fields) ⌝ }
     ensures { λ r. ⌜ r ≡ typed-kind (now (t .entry)) n field a b ⌝ }
 {
-    if !is_child(t, nodes, n, a, VALUE) {
+    if !is_child(notes, n, a, VALUE) {
         return Typed::Refused(7, place + 1);
     }
-    let pointer = types[index(a)];
+    let pointer = type_of(notes, a);
     if pointer < ENTRY {
         return Typed::Refused(8, place);
     }
@@ -243,17 +186,7 @@ fn field(
     if pointed < Table::RECORD {
         return Typed::Refused(8, place);
     }
-    record_field(
-        t,
-        first,
-        before,
-        records,
-        fields,
-        index(pointed - Table::RECORD),
-        place,
-        a,
-        b,
-    )
+    record_field(t, first, fields, index(pointed - Table::RECORD), place, b)
 }
 
 fn constant(place: usize, a: u32, b: u32) -> Typed
@@ -263,132 +196,66 @@ fn constant(place: usize, a: u32, b: u32) -> Typed
     if b != 0 {
         return Typed::Refused(7, place + 2);
     }
-    Typed::Is(Elaborated {
-        ty: INT,
-        x: a,
-        y: 0,
-        z: 0,
-        children: 0,
-    })
+    Typed::Is(INT)
 }
 
-fn sum(t: &[u32], types: &[u32; 512], nodes: usize, n: usize, place: usize, a: u32, b: u32) -> Typed
-    requires { ⌜ Reached (now t) nodes n place (now types) ⌝ }
-    ensures { λ r. ⌜ r ≡ typed-kind (now (t .entry)) n sum a b ⌝ }
+fn sum(notes: &[u32; 512], n: usize, place: usize, a: u32, b: u32) -> Typed
+    requires { ⌜ (n ≤ 512) × (place + 2 < 2 ^ 64) ⌝ }
+    ensures { λ r. ⌜ ((t : Words) → Reached t (now (notes .entry)) n place → r ≡ typed-kind t n sum a b) ⌝ }
 {
-    if !is_child(t, nodes, n, a, VALUE) {
+    if !is_child(notes, n, a, VALUE) {
         return Typed::Refused(7, place + 1);
     }
-    if !is_child(t, nodes, n, b, VALUE) {
+    if !is_child(notes, n, b, VALUE) {
         return Typed::Refused(7, place + 2);
     }
-    if types[index(b)] != INT {
+    if type_of(notes, b) != INT {
         return Typed::Refused(8, place);
     }
-    Typed::Is(Elaborated {
-        ty: types[index(a)],
-        x: a,
-        y: b,
-        z: 0,
-        children: 2,
-    })
+    Typed::Is(type_of(notes, a))
 }
 
-fn read(
-    t: &[u32],
-    types: &[u32; 512],
-    nodes: usize,
-    n: usize,
-    place: usize,
-    a: u32,
-    b: u32,
-) -> Typed
-    requires { ⌜ Reached (now t) nodes n place (now types) ⌝ }
-    ensures { λ r. ⌜ r ≡ typed-kind (now (t .entry)) n read a b ⌝ }
+fn read(notes: &[u32; 512], n: usize, place: usize, a: u32, b: u32) -> Typed
+    requires { ⌜ (n ≤ 512) × (place + 2 < 2 ^ 64) ⌝ }
+    ensures { λ r. ⌜ ((t : Words) → Reached t (now (notes .entry)) n place → r ≡ typed-kind t n read a b) ⌝ }
 {
-    if let Verdict::Refused(r, p) = only_child(t, nodes, n, place, a, b, PLACE) {
+    if let Verdict::Refused(r, p) = only_child(notes, n, place, a, b, PLACE) {
         return Typed::Refused(r, p);
     }
-    let ty = types[index(a)];
-    Typed::Is(Elaborated {
-        ty,
-        x: a,
-        y: ty,
-        z: 0,
-        children: 1,
-    })
+    Typed::Is(type_of(notes, a))
 }
 
-fn address(
-    t: &[u32],
-    types: &[u32; 512],
-    entry: &[u32; 98],
-    nodes: usize,
-    n: usize,
-    place: usize,
-    a: u32,
-    b: u32,
-) -> Typed
-    requires { ⌜ (Reached (now t) nodes n place (now types)) × Marks (now t) (now entry) (count (now t) 2) ⌝ }
-    ensures { λ r. ⌜ r ≡ typed-kind (now (t .entry)) n address a b ⌝ }
+fn address(notes: &[u32; 512], entry: &[u32; 98], n: usize, place: usize, a: u32, b: u32) -> Typed
+    requires { ⌜ (Reaches (now notes) n place) × (place + 2 < 2 ^ 64) ⌝ }
+    ensures { λ r. ⌜ ((t : Words) → Reached t (now (notes .entry)) n place → Marks t (now (entry .entry)) (count t 2) → r ≡ typed-kind t n address a b) ⌝ }
 {
-    if let Verdict::Refused(r, p) = only_child(t, nodes, n, place, a, b, PLACE) {
+    if let Verdict::Refused(r, p) = only_child(notes, n, place, a, b, PLACE) {
         return Typed::Refused(r, p);
     }
-    let ty = entry[layout::target_slot(types[index(a)])];
+    let ty = entry[layout::target_slot(type_of(notes, a))];
     // No pointer entry has this target.
     if ty == 0 {
         return Typed::Refused(8, place);
     }
-    Typed::Is(Elaborated {
-        ty,
-        x: a,
-        y: 0,
-        z: 0,
-        children: 1,
-    })
+    Typed::Is(ty)
 }
 
-fn cast(
-    t: &[u32],
-    types: &[u32; 512],
-    pointers: usize,
-    nodes: usize,
-    n: usize,
-    place: usize,
-    a: u32,
-    b: u32,
-) -> Typed
-    requires { ⌜ (Reached (now t) nodes n place (now types)) × (pointers ≡ count (now t) 2) ⌝ }
-    ensures { λ r. ⌜ r ≡ typed-kind (now (t .entry)) n cast a b ⌝ }
+fn cast(notes: &[u32; 512], pointers: usize, n: usize, place: usize, a: u32, b: u32) -> Typed
+    requires { ⌜ (n ≤ 512) × (pointers ≤ 64) × (place + 2 < 2 ^ 64) ⌝ }
+    ensures { λ r. ⌜ ((t : Words) → Reached t (now (notes .entry)) n place → pointers ≡ count t 2 → r ≡ typed-kind t n cast a b) ⌝ }
 {
-    if !is_child(t, nodes, n, a, VALUE) {
+    if !is_child(notes, n, a, VALUE) {
         return Typed::Refused(7, place + 1);
     }
     if !layout::known_type(pointers, b) {
         return Typed::Refused(5, place + 2);
     }
-    Typed::Is(Elaborated {
-        ty: b,
-        x: a,
-        y: keeps(types[index(a)], b),
-        z: 0,
-        children: 1,
-    })
+    Typed::Is(b)
 }
 
-fn size(
-    first: &[u32; 33],
-    before: &[u32; 129],
-    records: usize,
-    pointers: usize,
-    place: usize,
-    a: u32,
-    b: u32,
-) -> Typed
-    requires { ⌜ Targets (now first) (now before) records pointers ⌝ }
-    requires { ⌜ place + 2 < 2 ^ 64 ⌝ }
-    ensures { λ r. ⌜ ((t : Words) (n : ℕ) → Sized t (now (first .entry)) (now (before .entry)) records → pointers ≡ count t 2 → Placed t n place → r ≡ typed-kind t n size a b) ⌝ }
+fn size(records: usize, pointers: usize, place: usize, a: u32, b: u32) -> Typed
+    requires { ⌜ (records ≤ 32) × (pointers ≤ 64) × (place + 2 < 2 ^ 64) ⌝ }
+    ensures { λ r. ⌜ ((t : Words) (n : ℕ) → records ≡ count t 0 → pointers ≡ count t 2 → Placed t n place → r ≡ typed-kind t n size a b) ⌝ }
 {
     if !layout::known_target(records, pointers, a) {
         return Typed::Refused(5, place + 1);
@@ -396,88 +263,135 @@ fn size(
     if b != 0 {
         return Typed::Refused(7, place + 2);
     }
-    Typed::Is(Elaborated {
-        ty: INT,
-        x: size_of(first, before, records, a),
-        y: 0,
-        z: 0,
-        children: 0,
-    })
+    Typed::Is(INT)
 }
 
-fn malloc(
-    t: &[u32],
-    types: &[u32; 512],
-    nodes: usize,
-    n: usize,
-    place: usize,
-    a: u32,
-    b: u32,
-) -> Typed
-    requires { ⌜ Reached (now t) nodes n place (now types) ⌝ }
-    ensures { λ r. ⌜ r ≡ typed-kind (now (t .entry)) n malloc a b ⌝ }
+fn malloc(notes: &[u32; 512], n: usize, place: usize, a: u32, b: u32) -> Typed
+    requires { ⌜ (n ≤ 512) × (place + 2 < 2 ^ 64) ⌝ }
+    ensures { λ r. ⌜ ((t : Words) → Reached t (now (notes .entry)) n place → r ≡ typed-kind t n malloc a b) ⌝ }
 {
-    if let Verdict::Refused(r, p) = only_child(t, nodes, n, place, a, b, VALUE) {
+    if let Verdict::Refused(r, p) = only_child(notes, n, place, a, b, VALUE) {
         return Typed::Refused(r, p);
     }
-    if types[index(a)] != INT {
+    if type_of(notes, a) != INT {
         return Typed::Refused(8, place);
     }
-    Typed::Is(Elaborated {
-        ty: VOID,
-        x: a,
-        y: 0,
-        z: 0,
-        children: 1,
-    })
+    Typed::Is(VOID)
 }
 
-// Checks node n, of this kind. A test for 12 is not needed: there are too few nodes for a path of more than 512.
+// The functions below tell a node's answer. Where it has a type, they note it and count the uses of the node's children.
+
+// Counts one more use of node x.
+pub fn count_use(uses: &mut [u32; 512], x: u32)
+    requires { ⌜ Countable (now uses) x ⌝ }
+    ensures { λ r. ⌜ Counted (now (uses .entry)) (now (uses .exit)) (x ∷ []) ⌝ }
+{
+    let i = index(x);
+    uses[i] += 1;
+}
+
+fn enter(notes: &mut [u32; 512], kind: u32, n: usize, x: Typed) -> Verdict
+    requires { ⌜ (n < 512) × Small x × (length (now notes) ≡ 512) ⌝ }
+    ensures { λ r. ⌜ ((used : Words) → Told x kind n [] r (now (notes .entry)) (now (notes .exit)) used used) ⌝ }
+{
+    match x {
+        Typed::Is(ty) => {
+            notes[n] = ty + sort(kind);
+            Verdict::Passes
+        }
+        Typed::Refused(r, p) => Verdict::Refused(r, p),
+    }
+}
+
+fn with_child(
+    notes: &mut [u32; 512],
+    uses: &mut [u32; 512],
+    kind: u32,
+    n: usize,
+    a: u32,
+    x: Typed,
+) -> Verdict
+    requires { ⌜ (n < 512) × Small x × (length (now notes) ≡ 512) × (typed-verdict x ≡ passes → Countable (now uses) a) ⌝ }
+    ensures { λ r. ⌜ Told x kind n (a ∷ []) r (now (notes .entry)) (now (notes .exit)) (now (uses .entry)) (now (uses .exit)) ⌝ }
+{
+    if let Verdict::Refused(r, p) = enter(notes, kind, n, x) {
+        return Verdict::Refused(r, p);
+    }
+    count_use(uses, a);
+    Verdict::Passes
+}
+
+fn with_children(
+    notes: &mut [u32; 512],
+    uses: &mut [u32; 512],
+    kind: u32,
+    n: usize,
+    a: u32,
+    b: u32,
+    x: Typed,
+) -> Verdict
+    requires { ⌜ (n < 512) × Small x × (length (now notes) ≡ 512) × (typed-verdict x ≡ passes → Countable-both (now uses) a b) ⌝ }
+    ensures { λ r. ⌜ Told x kind n (a ∷ b ∷ []) r (now (notes .entry)) (now (notes .exit)) (now (uses .entry)) (now (uses .exit)) ⌝ }
+{
+    if let Verdict::Refused(r, p) = with_child(notes, uses, kind, n, a, x) {
+        return Verdict::Refused(r, p);
+    }
+    count_use(uses, b);
+    Verdict::Passes
+}
+
+// Checks node n. A test for 12 is not needed: there are too few nodes for a path of more than 512.
 pub fn check_node(
     t: &[u32],
-    types: &[u32; 512],
+    notes: &mut [u32; 512],
+    uses: &mut [u32; 512],
     first: &[u32; 33],
-    before: &[u32; 129],
     entry: &[u32; 98],
     records: usize,
     fields: usize,
     pointers: Section,
     variables: Section,
-    nodes: usize,
     n: usize,
     place: usize,
-    kind: u32,
-    a: u32,
-    b: u32,
-) -> Typed
-    requires { ⌜ Reached (now t) nodes n place (now types) ⌝ }
-    requires { ⌜ Lookups (now t) (now first) (now before) (now entry) records fields pointers variables ⌝ }
-    ensures { λ r. ⌜ r ≡ node-typed (now (t .entry)) n (kind-of kind) a b ⌝ }
+) -> Verdict
+    requires { ⌜ (Reached (now t) (now notes) n place) × (Lookups (now t) (now first) (now entry) records fields pointers variables) × (Room (now notes) (now uses)) ⌝ }
+    ensures { λ r. ⌜ Noted (now (t .entry)) n r (now (notes .entry)) (now (notes .exit)) (now (uses .entry)) (now (uses .exit)) ⌝ }
 {
+    let kind = t[place];
+    let a = t[place + 1];
+    let b = t[place + 2];
     match kind {
-        1 => variable(t, variables, place, a, b),
-        2 => deref(t, types, pointers.at, nodes, n, place, a, b),
-        3 => field(
-            t,
-            types,
-            first,
-            before,
-            records,
-            fields,
-            pointers.at,
-            nodes,
-            n,
-            place,
-            a,
-            b,
-        ),
-        4 => constant(place, a, b),
-        5 => sum(t, types, nodes, n, place, a, b),
-        6 => read(t, types, nodes, n, place, a, b),
-        7 => address(t, types, entry, nodes, n, place, a, b),
-        8 => cast(t, types, pointers.count, nodes, n, place, a, b),
-        9 => size(first, before, records, pointers.count, place, a, b),
-        10 => malloc(t, types, nodes, n, place, a, b),
-        _ => Typed::Refused(7, place),
+        1 => enter(notes, kind, n, variable(t, variables, place, a, b)),
+        2 => {
+            let x = deref(t, notes, pointers.at, n, place, a, b);
+            with_child(notes, uses, kind, n, a, x)
+        }
+        3 => {
+            let x = field(t, notes, first, fields, pointers.at, n, place, a, b);
+            with_child(notes, uses, kind, n, a, x)
+        }
+        4 => enter(notes, kind, n, constant(place, a, b)),
+        5 => {
+            let x = sum(notes, n, place, a, b);
+            with_children(notes, uses, kind, n, a, b, x)
+        }
+        6 => {
+            let x = read(notes, n, place, a, b);
+            with_child(notes, uses, kind, n, a, x)
+        }
+        7 => {
+            let x = address(notes, entry, n, place, a, b);
+            with_child(notes, uses, kind, n, a, x)
+        }
+        8 => {
+            let x = cast(notes, pointers.count, n, place, a, b);
+            with_child(notes, uses, kind, n, a, x)
+        }
+        9 => enter(notes, kind, n, size(records, pointers.count, place, a, b)),
+        10 => {
+            let x = malloc(notes, n, place, a, b);
+            with_child(notes, uses, kind, n, a, x)
+        }
+        _ => Verdict::Refused(7, place),
     }
 }

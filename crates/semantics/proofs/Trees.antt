@@ -1,12 +1,12 @@
 -- The nodes of a table that passes the check: their types are known and their trees make sense.
 use Prim.Native.Nat.{ℕ, zero, suc, _≤_, _<_}
 use mathlib.Core.Bool.{Bool, true, not}
-use mathlib.Core.Path.{_≡_, refl}
+use mathlib.Core.Path.{_≡_, refl, sym}
 use native.Mathlib.Omega.{arith}
 use native.Mathlib.Nat.{not-suc-le-zero}
 use native.Mathlib.Decide.{ℕ-discrete}
-use borrow.Author.Tests.{ltb-true}
-use lib.Dec.{ltb}
+use borrow.Author.Tests.{ltb-true, eqb-true}
+use lib.Dec.{ltb, eqb}
 use lib.ListN.{getD}
 use Rattle.semantics.specs.Words.{Words, word}
 use Rattle.semantics.specs.Table.{variables, nodes, commands, count, item-place, known-type, points-to-record, field-type, field-count, Kind, variable, deref, field, constant, sum, read, address, cast, size, malloc, unknown, Sort, place, value, neither, sort-of, operand-a, operand-b, node-kind, node-a, node-b, type-by-kind, type-rule, types-below, node-type}
@@ -162,6 +162,8 @@ pub record Command-ok (t : Words) (c : ℕ) : Type 0 where
   pub value-node : command-value t c < count t nodes
   pub place-tree : Place-ok (count t variables) (place-of t (command-place t c))
   pub value-tree : Value-ok (count t variables) (value-of t (command-value t c))
+  pub value-sort : sort-of (node-kind t (command-value t c)) ≡ value
+  pub same-type : node-type t (command-place t c) ≡ node-type t (command-value t c)
 
 pub command-ok : {t : Words} → Passed t → (c : ℕ) → c < count t commands → Command-ok t c
 unfolding command-fault place-of value-of
@@ -175,4 +177,6 @@ command-ok {t} ok c h =
       value-node = r .0;
       place-tree = as-place-ok {tr = tree-of t (command-place t c)} (rw (l .1) (trees-ok ok (count t nodes) (omega arith) (command-place t c) (l .0)));
       value-tree = as-value-ok {tr = tree-of t (command-value t c)} (rw (r .1) (trees-ok ok (count t nodes) (omega arith) (command-value t c) (r .0)));
+      value-sort = sym (r .1);
+      same-type = eqb-true (node-type t (command-place t c)) (node-type t (command-value t c)) (require-passes (eqb (node-type t (command-place t c)) (node-type t (command-value t c))) 8 _ (p1 .1));
     }

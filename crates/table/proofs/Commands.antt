@@ -7,14 +7,15 @@ use native.Mathlib.Omega.{arith}
 use borrow.Author.Tests.{eq-eqb, ne-eqb}
 use lib.Dec.{eqb}
 use Rattle.semantics.specs.Words.{Words, word, sum-below}
-use Rattle.semantics.specs.Table.{count, Sort, place, value, node-type}
+use Rattle.semantics.specs.Table.{count, place, value, node-type}
 use Rattle.semantics.specs.Check.{Verdict, passes, refused, _or-else_, require, each, is-child, command-place, command-value, command-fault, occurrences, uses, use-fault}
 use Rattle.semantics.proofs.Passed.{or-else-passes, require-passes}
 use Rattle.semantics.proofs.Trees.{is-child-true}
 use Rattle.layout.specs.Layout.{Stands}
 use Rattle.layout.specs.declared.Section.{Section}
 use Rattle.layout.proofs.Laws.{require-holds, require-refuses, or-else-pass, sum-more, place-at, item-at}
-use Rattle.table.specs.Promises.{Counted, Typed-to, command-verdict, Commands-counted, All-counted}
+use Rattle.nodes.specs.Promises.{Counted}
+use Rattle.table.specs.Promises.{command-verdict, Commands-counted, All-counted}
 use Rattle.table.proofs.Uses.{uses-few}
 
 -- ---- one command
@@ -37,12 +38,6 @@ module _ (t : Words) (n p x v : ℕ) (e : n ≡ count t 4) where
       pub command-passes : node-type t x ≡ node-type t v → passes ≡ command-verdict t p x v
       unfolding command-verdict require _or-else_
       command-passes q = rw (← e, left, right, eq-eqb (node-type t x) (node-type t v) q)
-
--- A child x, which stands at i: its type is in the list.
-pub typed-child : {t types : Words} {l : Section} → Stands t 4 l → Typed-to t types (count t 4) → (s : Sort) (x i : ℕ) → is-child t s (l .count) x ≡ true → i ≡ x → (i < 512) × (word types i ≡ node-type t x)
-typed-child {t} {types} {l} h typed s x i c e =
-    let less = is-child-true t s (l .count) x c .0 in
-    (omega (arith, less, h .limited), ap (word types) e ∙ typed .typed x (omega (arith, less, h .total)))
 
 pub command-children : (t : Words) (p x v : ℕ) → command-verdict t p x v ≡ passes → (x < count t 4) × (v < count t 4)
 unfolding command-verdict
@@ -68,12 +63,13 @@ module _ {t : Words} {l : Section} (h : Stands t 5 l) (c : ℕ) where
 
 pub counted-none : (t used : Words) → Commands-counted t used used 0
 unfolding sum-below
-counted-none t used = record { more = λ i. omega arith }
+counted-none t used = record { all = refl; more = λ i. omega arith }
 
 pub counted-more : {t used used₁ used₂ used₃ : Words} {c x v : ℕ} → Commands-counted t used used₁ c → Counted used₁ used₂ (x ∷ []) → Counted used₂ used₃ (v ∷ []) → x ≡ command-place t c → v ≡ command-value t c
     → Commands-counted t used used₃ (c + 1)
 counted-more {t} {c = c} {x} {v} before first second ex ev =
     record {
+      all = second .all ∙ first .all ∙ before .all;
       more = λ i.
           omega (arith, before .more i, first .more i, second .more i, ap (λ (y : ℕ). occurrences i (y ∷ [])) ex, ap (λ (y : ℕ). occurrences i (y ∷ [])) ev, sum-more (λ (k : ℕ). occurrences i (command-place t k ∷ command-value t k ∷ [])) c);
     }

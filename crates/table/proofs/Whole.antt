@@ -12,8 +12,7 @@ use Rattle.layout.specs.declared.Parsed.{Parsed}
 use Rattle.layout.specs.declared.Parsed.the-variants.{Refused}
 use Rattle.layout.proofs.Laws.{or-else-pass, or-else-refuse}
 use Rattle.nodes.proofs.Answers.{or-else-assoc}
-use Rattle.table.specs.Promises.{Elaborated-to, Commands-counted, All-counted, Elaborates}
-use Rattle.table.proofs.Trees.{same-tree}
+use Rattle.table.specs.Promises.{Nodes-noted, Commands-counted, All-counted, Left, Checks}
 
 abbrev pub sections : Words → Verdict
 sections t = each 6 (section-fault t) or-else words-over t
@@ -78,24 +77,17 @@ types-passed t s e =
       variable-passes = each-passes (count t variables) (variable-fault t) (p4 .1);
     }
 
-pub all-counted : {t code types used used′ : Words} → Elaborated-to t code types used (count t nodes) → Commands-counted t used used′ (count t commands) → All-counted t used′
+pub all-counted : {t notes used used′ : Words} → Nodes-noted t notes used (count t nodes) → Commands-counted t used used′ (count t commands) → All-counted t used′
 unfolding uses
 all-counted h k = record { all = λ i. omega (arith, k .more i, h .counted i) }
 
 -- A refusal promises nothing of the lists.
-pub refusal : {t code types : Words} {n p : ℕ} → check t ≡ refused n p → Elaborates t code types (Refused n p)
-refusal {t} {n = n} {p} e =
-    let never : check t ≡ passes → ⊥ = λ q. let z : _≡_ {A = ℕ} 0 1 = cc in omega arith in
-    record { answer = rw e; typed = λ q. absurd (never q); coded = λ q. absurd (never q) }
+pub refusal : {t first before notes : Words} {n p : ℕ} → check t ≡ refused n p → Checks t first before notes (Refused n p)
+refusal {t} e = record { answer = rw e; left = λ q. absurd (let z : _≡_ {A = ℕ} 0 1 = cc in omega arith) }
 
 pub parsed-layout : (t : Words) → sections t ≡ passes → parsed t ≡ layout-by t passes
 unfolding parsed
 parsed-layout t e = rw e
 
-pub elaborates : {t code types used : Words} {r : Parsed} → check t ≡ passes → r ≡ layout-by t passes → Elaborated-to t code types used (count t nodes) → Elaborates t code types r
-elaborates e q h =
-    record {
-      answer = rw e q;
-      typed = λ p. h .typed;
-      coded = λ p n less. same-tree n (λ i l. h .coded i (omega arith));
-    }
+pub passes-with : {t first before notes : Words} {r : Parsed} → check t ≡ passes → r ≡ layout-by t passes → Left t first before notes → Checks t first before notes r
+passes-with e q h = record { answer = rw e q; left = λ p. h }

@@ -6,7 +6,7 @@ use Rattle.evaluator.proofs.variable.Statement.{statement}
 use Rattle.evaluator.proofs.variable.Tie as tie
 
 returns : tie.Need-returns
-returns c = variable-answered refl (c .long .ensures .0) refl refl (c .long .ensures .1)
+returns c = (variable-answered refl (c .long .ensures .0) (c .before .bound .ensures .base) (c .before .bound .ensures .end) (c .long .ensures .1), c .before .bound .ensures .kept)
 
 pub variable-spec : {M : Type 1} → statement M
-variable-spec = tie.close (tie.spec (λ c. search needs) (λ c. search needs) (λ c κs. search needs) returns)
+variable-spec = tie.close (tie.spec (λ c. search needs) (λ c. search needs) (λ c κs. search needs) (λ c κs. search needs) returns)

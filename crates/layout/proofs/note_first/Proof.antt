@@ -1,5 +1,5 @@
 -- `layout::note_first` meets its contract. The loop's invariant: the list is filled up to i. The sums fit since the last is at most 128.
-use Prim.Native.Nat.{ℕ, _≤_, _+_, _-_}
+use Prim.Native.Nat.{_≤_, _+_, _-_}
 use mathlib.Core.Path.{_≡_, refl}
 use native.Mathlib.Omega.{arith}
 use denote.Ref.{now}

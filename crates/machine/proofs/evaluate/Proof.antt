@@ -4,17 +4,17 @@ use Rattle.machine.proofs.Commands.{place-first, value-next, place-ende
 use Rattle.machine.proofs.evaluate.Statement.{statement}
 use Rattle.machine.proofs.evaluate.Tie as tie
 
-place-requires : tie.Need-place-requires
-place-requires c κs = place-first (c .before .before .before .before .before .before .before .pre)
+assigned-requires : tie.Need-assigned-requires
+assigned-requires c κs = place-first (c .before .before .before .before .before .pre)
 
 returns : tie.Need-returns
-returns c = place-ended (c .before .place .ensures) (c .if1 .taken)
+returns c = place-ended (c .before .assigned .ensures) (c .if1 .taken)
 
 value-requires : tie.Need-value-requires
-value-requires c κs = value-next (c .before .before .before .before .before .before .before .before .before .before .before .before .before .before .pre) (c .before .before .before .before .before .before .place .ensures) (c .before .before .before .before .before .if1 .left)
+value-requires c κs = value-next (c .before .before .before .before .before .before .before .before .before .before .pre) (c .before .before .before .before .assigned .ensures) (c .before .before .before .if1 .left)
 
 returns-2 : tie.Need-returns-2
-returns-2 c = evaluated (c .before .before .before .before .before .before .before .place .ensures) (c .before .before .before .before .before .before .if1 .left) (c .before .before .before .before .before .low .ensures) (c .value .ensures)
+returns-2 c = evaluated (c .before .before .before .before .before .assigned .ensures) (c .before .before .before .before .if1 .left) (c .before .before .before .low .ensures) (c .value .ensures)
 
 pub evaluate-spec : {M : Type 1} → statement M
-evaluate-spec = tie.close (tie.spec place-requires returns (λ c κs. search needs) value-requires returns-2)
+evaluate-spec = tie.close (tie.spec assigned-requires returns (λ c κs. search needs) value-requires returns-2)

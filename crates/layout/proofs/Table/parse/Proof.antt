@@ -1,7 +1,6 @@
 -- `layout::Table::parse` meets its contract. At each call of `Section::parse` the sections before it have passed (`answer`), and
 -- in the arm that goes on so has the section read (`read`).
-use Prim.Native.Nat.{ℕ, _+_, _*_}
-use mathlib.Core.Path.{_≡_, refl}
+use mathlib.Core.Path.{refl}
 use native.Mathlib.Omega.{arith}
 use borrow.Author.Needs.{needs}
 use denote.Ref.{now}

@@ -1,0 +1,56 @@
+-- The six lists in which the evaluator reads a table that has passed the check.
+use Prim.Native.Nat.{ℕ, _+_, _*_, _≤_, _<_}
+use mathlib.Core.Bool.{true}
+use mathlib.Core.Path.{_≡_}
+use mathlib.Core.List.{List, []}
+use lib.ListN.{length, getD}
+use Rattle.semantics.specs.Words.{Words, word}
+use Rattle.semantics.specs.Table.{records, fields, pointers, nodes, count, item, known-target, first-field, field, value, sort-of, node-kind, node-type}
+use Rattle.semantics.proofs.Passed.{Passed}
+use Rattle.layout.specs.Types.{words-before, Tabulated}
+
+-- List j of some lists.
+abbrev pub column : List Words → ℕ → Words
+column l j = getD l j []
+
+-- Word j of node n.
+abbrev pub part : List Words → ℕ → ℕ → ℕ
+part l n j = word (column l 0) (n * 3 + j)
+
+-- l are the lists of the table t: its nodes, their types, the targets of its pointers, its fields, the first field of each
+-- record, and the words before each field. Of the types, those of values are asked.
+pub record Lists (t : Words) (l : List Words) : Type 0 where
+  pub passed : Passed t
+  pub node-is : (n j : ℕ) → n < count t nodes → j < 3 → part l n j ≡ item t nodes n j
+  pub node-room : 3 * count t nodes ≤ length (column l 0)
+  pub type-is : (n : ℕ) → n < count t nodes → sort-of (node-kind t n) ≡ value → word (column l 1) n ≡ node-type t n
+  pub type-room : count t nodes ≤ length (column l 1)
+  pub target-is : (i : ℕ) → i < count t pointers → word (column l 2) i ≡ item t pointers i 0
+  pub target-room : count t pointers ≤ length (column l 2)
+  pub field-is : (f : ℕ) → f < count t fields → word (column l 3) (2 * f + 1) ≡ item t fields f 1
+  pub field-room : 2 * count t fields ≤ length (column l 3)
+  pub firsts : Tabulated (column l 4) (count t records) (first-field t)
+  pub first-room : count t records < length (column l 4)
+  pub befores : Tabulated (column l 5) (count t fields) (words-before t)
+  pub before-room : count t fields < length (column l 5)
+
+-- Node n of the table is a field.
+pub record Field-node (t : Words) (l : List Words) (n : ℕ) : Type 0 where
+  pub lists : Lists t l
+  pub node : n < count t nodes
+  pub kind : node-kind t n ≡ field
+
+-- It is one of some table with these lists.
+pub record Field-ready (l : List Words) (n : ℕ) : Type 0 where
+  pub table : Words
+  pub is-field : Field-node table l n
+
+-- The table has a target x.
+pub record Target-word (t : Words) (l : List Words) (x : ℕ) : Type 0 where
+  pub lists : Lists t l
+  pub known : known-target t x ≡ true
+
+-- Some table with these lists has it.
+pub record Target-ready (l : List Words) (x : ℕ) : Type 0 where
+  pub table : Words
+  pub is-target : Target-word table l x
