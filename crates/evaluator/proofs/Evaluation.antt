@@ -8,17 +8,18 @@ use native.Mathlib.Decide.{ℕ-discrete}
 use native.Mathlib.Nat.{le-antisymm}
 use lib.ListN.{length}
 use Rattle.semantics.specs.Words.{Words, word}
-use Rattle.semantics.specs.Table.{nodes, count, item, is-pointer, known-target, size-of, size, node-a, node-b, node-type}
+use Rattle.semantics.specs.Table.{nodes, count, item, is-pointer, known-target, size-of, read, size, place, node-a, node-b, node-type}
+use Rattle.semantics.specs.Check.{is-child}
 use Rattle.semantics.specs.Rules.{Datum, Location, Event, State, Outcome, unbounded, bind, variable-location, address-step, place-at}
 use Rattle.semantics.proofs.Passed.{require-passes}
-use Rattle.semantics.proofs.Trees.{Node-ok, node-ok}
+use Rattle.semantics.proofs.Trees.{Node-ok, node-ok, is-child-true}
 use Rattle.semantics.proofs.Invariant.{Inv, Datum-ok, Good, good-ok}
 use Rattle.semantics.proofs.Steps.{place-good, value-good}
-use Rattle.evaluator.specs.Lists.{column, part, Lists, Field-node, Field-ready, Target-word, Target-ready}
-use Rattle.evaluator.specs.Result.{failed, state-of, Kept, Bounded, answers-ok, answers-failed, answers-full, Datum-answers, Location-answers, Variable-answered, Deref-answered, Field-answered, Sum-answered, Load-answered, Cast-answered, Malloc-answered, Ready, Place-ready, Value-ready, Place-answered, Value-answered, Assigned-answered}
+use Rattle.evaluator.specs.Lists.{column, part, Lists, Node-ready, Reads-variable, Field-node, Field-ready, Target-word, Target-ready}
+use Rattle.evaluator.specs.Result.{failed, state-of, Kept, Bounded, answers-ok, answers-failed, answers-full, Datum-answers, Location-answers, Variable-answered, Deref-answered, Field-answered, Sum-answered, Load-answered, Cast-answered, Malloc-answered, Ready, Place-ready, Pointed-ready, Value-ready, Place-answered, Value-answered, Assigned-answered}
 use Rattle.evaluator.proofs.Finish.{passed-on, touched}
 use Rattle.evaluator.proofs.Lookups.{item-inside, type-inside, item-is}
-use Rattle.evaluator.proofs.Nodes.{place-kind, value-kind, value-node, field-kind, size-kind, Value-child, Place-child, offset-of, count-of, cast-keeps, constant-node, size-node, variable-node, deref-node, field-node, sum-node, read-node, address-node, cast-node, malloc-node}
+use Rattle.evaluator.proofs.Nodes.{place-kind, value-kind, value-node, field-kind, size-kind, read-kind, Value-child, Place-child, offset-of, count-of, cast-keeps, constant-node, size-node, variable-node, deref-node, field-node, sum-node, read-node, address-node, cast-node, malloc-node}
 
 -- ---- a node's words, as the lists have them
 
@@ -37,6 +38,26 @@ size-known : (t : Words) (n : ℕ) {l : List Words} → item t nodes n 0 ≡ 9 �
 size-known t n i lists node =
     let g : Node-ok t n size (node-a t n) (node-b t n) = rw (size-kind t n i) at (node-ok t n (lists .passed .node-passes n node)) in
     require-passes (known-target t (node-a t n)) _ _ (g .a-ok)
+
+-- ---- a node that reads a variable
+
+module _ {l : List Words} {n : ℕ} (h : Node-ready l n) where
+  pub node-item : (j : ℕ) → j < 3 → (n < 512) × (j < 3) × (n * 3 + j < length (column l 0))
+  node-item j less = item-inside (h .lists) (h .node) j less
+
+  -- The child of a read is a node too.
+  pub place-read : {k c : ℕ} → k ≡ part l n 0 → k ≡ 6 → c ≡ part l n 1 → (j : ℕ) → j < 3 → (c < 512) × (j < 3) × (c * 3 + j < length (column l 0))
+  place-read e q p j less =
+      let t = h .table in
+      let g : Node-ok t n read (node-a t n) (node-b t n) = rw (read-kind t n (kind-is (h .lists) (h .node) e q)) at (node-ok t n (h .lists .passed .node-passes n (h .node))) in
+      let below = is-child-true t place n (node-a t n) (require-passes (is-child t place n (node-a t n)) 7 _ (g .a-ok)) .0 in
+      item-inside (h .lists) (omega (arith, below, h .node, a-is (h .lists) (h .node) p)) j less
+
+pub reads : {l : List Words} {n k c j : ℕ} → k ≡ part l n 0 → k ≡ 6 → c ≡ part l n 1 → j ≡ part l c 0 → j ≡ 1 → Reads-variable l n
+reads e q p f r = record { reads = sym e ∙ q; variable = rw (← p) (sym f ∙ r) }
+
+pub variable-read : {l : List Words} {n c : ℕ} → Reads-variable l n → c ≡ part l n 1 → part l c 0 ≡ 1
+variable-read h p = rw p (h .variable)
 
 -- ---- what a call requires: a child of a node that is ready is ready, and smaller
 
@@ -80,6 +101,13 @@ module _ {l m : List Words} {n : ℕ} {s : Words} (h : Place-ready l m n s) wher
     pub field-ready : (k ≡ 1 → ⊥) → (k ≡ 2 → ⊥) → Field-ready l n
     field-ready q r =
         record { table = h .table; is-field = record { lists = h .lists; node = h .node; kind = field-kind (h .table) n (is-field q r) } }
+
+pub is-node : {l m : List Words} {n : ℕ} {s : Words} → Value-ready l m n s → Node-ready l n
+is-node h = record { table = h .table; lists = h .lists; node = h .node }
+
+-- The child of a place that is no variable was worked out.
+pub pointed-ready : {l m : List Words} {n k a v : ℕ} {s s₀ s₁ : Words} → Place-ready l m n s → k ≡ part l n 0 → (k ≡ 1 → ⊥) → Value-answered l m a s₀ v s₁ → Pointed-ready l n k s₁
+pointed-ready h e q answer = record { room = answer .room; no-variable = q; is-field = field-ready h e q }
 
 -- The state after a value that was worked out is one of a begun run too.
 state-after : {vars v b e u : ℕ} {m : List Words} {s₀ : State} {o : Outcome Datum} → length (column m 0) ≤ 65536 → Datum-answers m v b e u o
@@ -126,6 +154,9 @@ module _ {l m : List Words} {n : ℕ} {s : Words} (h : Value-ready l m n s) wher
 
       pub malloc-ready : k ≡ 10 → (a < n) × Value-ready l m a s
       malloc-ready q = a-ready (malloc-node (h .table) n (is q) (h .tree) .0) (a-is (h .lists) (h .node) p)
+
+      pub malloc-item : k ≡ 10 → (j : ℕ) → j < 3 → (a < 512) × (j < 3) × (a * 3 + j < length (column l 0))
+      malloc-item q j less = item-inside (h .lists) (omega (arith, malloc-ready q .0, h .node)) j less
 
       -- A place that is read lies in all three lists.
       pub read-inside : {r : ℕ} {s′ : Words} → k ≡ 6 → Place-answered l m a s r s′ → r < failed
@@ -369,6 +400,21 @@ module _ {l m : List Words} {n : ℕ} {s : Words} {k a : ℕ} (e : k ≡ part l 
             let nd = malloc-node t n (kind-is lists node e q) h in
             let p′ = a-is lists node p in
             rw (nd .1, ← p′) (answer .meets _ _ m _ (sym hl) (child .meets t lists (omega (arith, nd .0 .less, p′)) vars log inv (rw (← p′) at (nd .0 .tree))));
+      }
+
+  -- The number of words is a constant: no bounds are set for it.
+  pub malloc-constant-answer : {j i len v r : ℕ} {s₂ : Words} → k ≡ 10 → len ≡ length (column m 0) → j ≡ part l a 0 → j ≡ 4 → i ≡ part l a 1 → v ≡ i → v < failed
+      → Malloc-answered len v (word s 2) r (word s₂ 0) (word s₂ 1) (word s₂ 2) → length s₂ ≡ 3 → Value-answered l m n s r s₂
+  unfolding place-at
+  malloc-constant-answer {i = i} q hl f z x hv small answer room =
+      record {
+        room = room;
+        meets = λ t lists node vars log inv h.
+            let nd = malloc-node t n (kind-is lists node e q) h in
+            let p′ = a-is lists node p in
+            let inside : a < count t nodes = omega (arith, nd .0 .less, p′) in
+            rw (nd .1, ← p′, constant-node t a (kind-is lists inside f z), ← a-is lists inside x)
+            (answer .meets 0 0 m _ (sym hl) (answers-ok (unbounded i) log (sym hv) refl refl small));
       }
 
   -- ---- a command's place

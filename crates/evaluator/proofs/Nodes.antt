@@ -103,6 +103,10 @@ pub size-kind : (t : Words) (n : ℕ) → item t nodes n 0 ≡ 9 → node-kind t
 unfolding node-kind kind-of
 size-kind t n k = rw k
 
+pub read-kind : (t : Words) (n : ℕ) → item t nodes n 0 ≡ 6 → node-kind t n ≡ read
+unfolding node-kind kind-of
+read-kind t n k = rw k
+
 -- ---- children
 
 no-tree : (t : Words) (n x : ℕ) → n ≤ x → getD (trees-below t n) x senseless ≡ senseless

@@ -10,7 +10,7 @@ use Rattle.semantics.specs.Syntax.{place-of, value-of}
 use Rattle.semantics.specs.Rules.{Datum, Location, Event, Shortfall, State, Outcome, ok, fails, no-room, bind, variable-location, in-bounds, deref-step, field-step, read-step, sum-step, cast-step, malloc-step, place-at, value-at}
 use Rattle.semantics.proofs.Invariant.{Inv, Location-ok, Good}
 use Rattle.semantics.proofs.Steps.{Place-ok, Value-ok}
-use Rattle.evaluator.specs.Lists.{column, Lists}
+use Rattle.evaluator.specs.Lists.{column, Lists, Field-ready}
 
 abbrev pub failed : ℕ
 failed = 4294967296
@@ -105,6 +105,12 @@ pub record Value-ready (l m : List Words) (n : ℕ) (s : Words) : Type 0 where
   pub room : length s ≡ 3
   pub state : Ready m (word s 2)
   pub tree : Value-ok (state .vars) (value-of table n)
+
+-- The child of node n, of this kind, was worked out: n is followed or a field.
+pub record Pointed-ready (l : List Words) (n kind : ℕ) (s : Words) : Type 0 where
+  pub room : length s ≡ 3
+  pub no-variable : kind ≡ 1 → ⊥
+  pub is-field : (kind ≡ 2 → ⊥) → Field-ready l n
 
 -- What is answered for node n from the state with U u, r with base b, end e and U u′, is what the rules give, whatever the table
 -- with these lists and the log.

@@ -3,14 +3,14 @@
 // and the words before each field. `m` is the memory: values, bases and ends. `s` holds base and end of what was worked out, and U.
 // A result is one number, below 2^32 a value or a place, else how evaluation ended.
 ghost use mathlib.Core.Path.{_≡_};
-ghost use mathlib.Core.Bool.{_&&_};
-ghost use mathlib.Core.List.{map};
-ghost use Prim.Native.Nat.{_+_, _*_, _<_, _^_};
+ghost use mathlib.Core.Bool.{true, _&&_};
+ghost use mathlib.Core.List.{List, map};
+ghost use Prim.Native.Nat.{ℕ, _+_, _*_, _<_, _^_};
 ghost use lib.ListN.{length};
 ghost use Rattle.semantics.specs.Words.{Words, word};
 ghost use Rattle.semantics.specs.Table.{is-pointer, pointed-record, first-field, field-offset, field-count, size-of, node-a, node-b, node-type};
-ghost use Rattle.evaluator.specs.Lists.{column, part, Field-node, Field-ready, Target-word, Target-ready};
-ghost use Rattle.evaluator.specs.Result.{failed, within-bounds, Variable-answered, Deref-answered, Field-answered, Sum-answered, Load-answered, Cast-answered, Malloc-answered, Kept, Bounded, Place-ready, Value-ready, Place-answered, Value-answered, Assigned-answered};
+ghost use Rattle.evaluator.specs.Lists.{column, part, Node-ready, Field-node, Field-ready, Reads-variable, Target-word, Target-ready};
+ghost use Rattle.evaluator.specs.Result.{failed, within-bounds, Variable-answered, Deref-answered, Field-answered, Sum-answered, Load-answered, Cast-answered, Malloc-answered, Kept, Bounded, Place-ready, Value-ready, Pointed-ready, Place-answered, Value-answered, Assigned-answered};
 use layout::Table;
 use layout::index;
 use layout::long;
@@ -266,6 +266,37 @@ fn allocate(v: u64, len: usize, s: &mut [u32; 3]) -> u64
     FULL
 }
 
+// Whether node n reads a variable: then it is worked out without a call.
+fn reads_variable(l: &[&[u32]; 6], n: usize) -> bool
+    requires { ⌜ Node-ready (map (λ x. now x) (now l)) n ⌝ }
+    ensures { λ r. ⌜ (r ≡ true → Reads-variable (map (λ x. now x) (now (l .entry))) n) ⌝ }
+{
+    if item(l, n, 0) != 6 {
+        return false;
+    }
+    item(l, child(l, n, 1), 0) == 1
+}
+
+// The value of node n, which reads a variable.
+fn read_variable(l: &[&[u32]; 6], m: &[&[u32]; 3], n: usize, s: &mut [u32; 3]) -> u64
+    requires { ⌜ (Value-ready (map (λ x. now x) (now l)) (map (λ x. now x) (now m)) n (now s)) × (Reads-variable (map (λ x. now x) (now l)) n) ⌝ }
+    ensures { λ r. ⌜ Value-answered (map (λ x. now x) (now (l .entry))) (map (λ x. now x) (now (m .entry))) n (now (s .entry)) r (now (s .exit)) ⌝ }
+{
+    let c = child(l, n, 1);
+    load(m, long(item(l, c, 1)) + 1, type_of(l, n), s)
+}
+
+// The place that node n of this kind, no variable, is from what its child answered, v.
+fn pointed(l: &[&[u32]; 6], n: usize, kind: u32, v: u64, s: &mut [u32; 3]) -> u64
+    requires { ⌜ Pointed-ready (map (λ x. now x) (now l)) n kind (now s) ⌝ }
+    ensures { λ r. ⌜ ((m : List Words) (a : ℕ) (s₀ : Words) → Value-answered (map (λ x. now x) (now (l .entry))) m a s₀ v (now (s .entry)) → kind ≡ part (map (λ x. now x) (now (l .entry))) n 0 → a ≡ part (map (λ x. now x) (now (l .entry))) n 1 → Place-answered (map (λ x. now x) (now (l .entry))) m n s₀ r (now (s .exit))) ⌝ }
+{
+    if kind == 2 {
+        return deref(v, s[0], s[1]);
+    }
+    field(v, offset(l, n), count(l, n), s)
+}
+
 // The place that node n is, with its bounds.
 pub fn place(l: &[&[u32]; 6], m: &[&[u32]; 3], n: usize, s: &mut [u32; 3]) -> u64
     requires { ⌜ Place-ready (map (λ x. now x) (now l)) (map (λ x. now x) (now m)) n (now s) ⌝ }
@@ -275,15 +306,17 @@ pub fn place(l: &[&[u32]; 6], m: &[&[u32]; 3], n: usize, s: &mut [u32; 3]) -> u6
     if kind == 1 {
         return variable(item(l, n, 1), s);
     }
-    let v = value(l, m, child(l, n, 1), s);
-    if kind == 2 {
-        return deref(v, s[0], s[1]);
+    let c = child(l, n, 1);
+    if reads_variable(l, c) {
+        let v = read_variable(l, m, c, s);
+        return pointed(l, n, kind, v, s);
     }
-    field(v, offset(l, n), count(l, n), s)
+    let v = value(l, m, c, s);
+    pointed(l, n, kind, v, s)
 }
 
 // The value that node n has, with its bounds. Where no call is needed for a child, a variable that is read or a constant that is
-// added, none is made.
+// added or obtained, none is made.
 pub fn value(l: &[&[u32]; 6], m: &[&[u32]; 3], n: usize, s: &mut [u32; 3]) -> u64
     requires { ⌜ Value-ready (map (λ x. now x) (now l)) (map (λ x. now x) (now m)) n (now s) ⌝ }
     ensures { λ r. ⌜ Value-answered (map (λ x. now x) (now (l .entry))) (map (λ x. now x) (now (m .entry))) n (now (s .entry)) r (now (s .exit)) ⌝ }
@@ -308,7 +341,7 @@ pub fn value(l: &[&[u32]; 6], m: &[&[u32]; 3], n: usize, s: &mut [u32; 3]) -> u6
         6 => {
             let c = child(l, n, 1);
             if item(l, c, 0) == 1 {
-                return load(m, long(item(l, c, 1)) + 1, type_of(l, n), s);
+                return read_variable(l, m, n, s);
             }
             load(m, place(l, m, c, s), type_of(l, n), s)
         }
@@ -319,8 +352,28 @@ pub fn value(l: &[&[u32]; 6], m: &[&[u32]; 3], n: usize, s: &mut [u32; 3]) -> u6
             cast(v, keeps(type_of(l, c), item(l, n, 2)), s)
         }
         9 => size(l, n, s),
-        _ => allocate(value(l, m, child(l, n, 1), s), words(m), s),
+        _ => {
+            let c = child(l, n, 1);
+            if item(l, c, 0) == 4 {
+                return allocate(long(item(l, c, 1)), words(m), s);
+            }
+            allocate(value(l, m, c, s), words(m), s)
+        }
     }
+}
+
+// The value that a command assigns, node n: for a constant or a variable that is read, with no call.
+pub fn result(l: &[&[u32]; 6], m: &[&[u32]; 3], n: usize, s: &mut [u32; 3]) -> u64
+    requires { ⌜ Value-ready (map (λ x. now x) (now l)) (map (λ x. now x) (now m)) n (now s) ⌝ }
+    ensures { λ r. ⌜ Value-answered (map (λ x. now x) (now (l .entry))) (map (λ x. now x) (now (m .entry))) n (now (s .entry)) r (now (s .exit)) ⌝ }
+{
+    if item(l, n, 0) == 4 {
+        return number(item(l, n, 1), s);
+    }
+    if reads_variable(l, n) {
+        return read_variable(l, m, n, s);
+    }
+    value(l, m, n, s)
 }
 
 // The place that a command assigns to, node n: for a variable its word, with no more work. Its bounds are not asked.

@@ -52,7 +52,7 @@ fn evaluate<'a>(
         return w;
     }
     *at = low(w);
-    evaluator::value(l, &m, v, s)
+    evaluator::result(l, &m, v, s)
 }
 
 // Stores a value, and its bounds where its type is a pointer's.

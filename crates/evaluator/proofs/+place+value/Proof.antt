@@ -15,14 +15,13 @@ use Rattle.evaluator.proofs.allocate.Reads as allocate-reads
 use Rattle.evaluator.proofs.bound.Reads as bound-reads
 use Rattle.evaluator.proofs.cast.Reads as cast-reads
 use Rattle.evaluator.proofs.child.Reads as child-reads
-use Rattle.evaluator.proofs.count.Reads as count-reads
-use Rattle.evaluator.proofs.deref.Reads as deref-reads
-use Rattle.evaluator.proofs.field.Reads as field-reads
 use Rattle.evaluator.proofs.item.Reads as item-reads
 use Rattle.evaluator.proofs.keeps.Reads as keeps-reads
 use Rattle.evaluator.proofs.load.Reads as load-reads
 use Rattle.evaluator.proofs.number.Reads as number-reads
-use Rattle.evaluator.proofs.offset.Reads as offset-reads
+use Rattle.evaluator.proofs.pointed.Reads as pointed-reads
+use Rattle.evaluator.proofs.read_variable.Reads as read-variable-reads
+use Rattle.evaluator.proofs.reads_variable.Reads as reads-variable-reads
 use Rattle.evaluator.proofs.size.Reads as size-reads
 use Rattle.evaluator.proofs.sum.Reads as sum-reads
 use Rattle.evaluator.proofs.type_of.Reads as type-of-reads
@@ -31,7 +30,7 @@ use Rattle.evaluator.proofs.words.Reads as words-reads
 use Rattle.layout.proofs.long.Reads as long-reads
 use Rattle.evaluator.proofs.+place+value.{statement}
 use Rattle.evaluator.proofs.+place+value.Tie.{close}
-use Rattle.evaluator.proofs.Evaluation.{falls-to, place-item, variable-small, child-ready, field-ready, value-item, value-type, sum-ready, right-item, right-ready, read-ready, read-item, read-inside, variable-inside, variable-under, address-ready, cast-ready, cast-type, size-ready, malloc-kind, malloc-ready, variable-answer, deref-answer, field-answer, constant-answer, size-answer, sum-ended-answer, sum-answer, sum-constant-answer, read-answer, read-variable-answer, address-answer, cast-answer, malloc-answer}
+use Rattle.evaluator.proofs.Evaluation.{falls-to, is-node, pointed-ready, reads, malloc-item, malloc-constant-answer, place-item, variable-small, child-ready, field-ready, value-item, value-type, sum-ready, right-item, right-ready, read-ready, read-item, read-inside, variable-inside, variable-under, address-ready, cast-ready, cast-type, size-ready, malloc-kind, malloc-ready, variable-answer, deref-answer, field-answer, constant-answer, size-answer, sum-ended-answer, sum-answer, sum-constant-answer, read-answer, read-variable-answer, address-answer, cast-answer, malloc-answer}
 
 abbrev μ-place : Measures 5 place-kinds.ps ℕ
 μ-place κs a = a .1 .1 .0
@@ -54,22 +53,20 @@ value-below t = and 5 value-kinds.ps (falls 5 value-kinds.ps _<_ μ-value t) val
 pub +place+value-spec : {M : Type 1} → statement M
 +place+value-spec =
     close μ-place μ-value
-    (λ t. place-lts.spec (item-reads.Asked, item-reads.Learnt, variable-reads.Asked, variable-reads.Learnt, child-reads.Asked, child-reads.Learnt, value-below t, value.Post, deref-reads.Asked, deref-reads.Learnt, offset-reads.Asked, offset-reads.Learnt, count-reads.Asked, count-reads.Learnt, field-reads.Asked, field-reads.Learnt) (place-at t) place.Post
+    (λ t. place-lts.spec (item-reads.Asked, item-reads.Learnt, variable-reads.Asked, variable-reads.Learnt, child-reads.Asked, child-reads.Learnt, reads-variable-reads.Asked, reads-variable-reads.Learnt, read-variable-reads.Asked, read-variable-reads.Learnt, pointed-reads.Asked, pointed-reads.Learnt, value-below t, value.Post) (place-at t) place.Post
     (λ c κs. place-item (c .pre .1) 0 (omega arith))
     (λ c κs. place-item (c .before .before .pre .1) 1 (omega arith))
     (λ c κs. variable-small (c .before .before .before .before .pre .1) (c .before .before .before .item .ensures) (c .before .before .if1 .taken) (c .before .item2 .ensures))
     (λ c. variable-answer (c .before .before .before .before .item .ensures) (c .before .before .item2 .ensures) (c .before .before .before .if1 .taken) (c .variable .ensures .0) (c .variable .ensures .1))
     (λ c κs. place-item (c .before .before .pre .1) 1 (omega arith))
-    (λ c κs. falls-to (c .before .before .before .before .pre .0) (child-ready (c .before .before .before .before .pre .1) (c .before .before .before .item .ensures) (c .before .before .if1 .left) (c .before .child .ensures)))
-    (λ c. search needs)
-    (λ c. search needs)
-    (λ c κs. search needs)
-    (λ c. deref-answer (c .before .before .before .before .before .before .before .before .item .ensures) (c .before .before .before .before .before .before .child .ensures) (c .before .before .before .if2 .taken) (c .before .before .before .before .value .ensures) (c .deref .ensures))
-    (λ c κs. field-ready (c .before .before .before .before .before .before .pre .1) (c .before .before .before .before .before .item .ensures) (c .before .before .before .before .if1 .left) (c .if2 .left))
-    (λ c κs. field-ready (c .before .before .before .before .before .before .before .pre .1) (c .before .before .before .before .before .before .item .ensures) (c .before .before .before .before .before .if1 .left) (c .before .if2 .left))
-    (λ c κs. c .before .before .before .before .value .ensures .room)
-    (λ c. field-answer (c .before .before .before .before .before .before .before .before .before .item .ensures) (c .before .before .before .before .before .before .before .child .ensures) (c .before .before .before .before .before .before .before .before .if1 .left) (c .before .before .before .before .if2 .left) (c .before .before .before .offset .ensures) (c .before .before .count .ensures) (c .before .before .before .before .before .value .ensures) (c .field .ensures .0) (c .field .ensures .1)))
-    (λ t. value-lts.spec (item-reads.Asked, item-reads.Learnt, number-reads.Asked, number-reads.Learnt, child-reads.Asked, child-reads.Learnt, value-below t, value.Post, long-reads.Asked, long-reads.Learnt, sum-reads.Asked, sum-reads.Learnt, bound-reads.Asked, bound-reads.Learnt, type-of-reads.Asked, type-of-reads.Learnt, load-reads.Asked, load-reads.Learnt, place-below t, place.Post, keeps-reads.Asked, keeps-reads.Learnt, cast-reads.Asked, cast-reads.Learnt, size-reads.Asked, size-reads.Learnt, words-reads.Asked, words-reads.Learnt, allocate-reads.Asked, allocate-reads.Learnt) (value-at t) value.Post
+    (λ c κs. is-node (child-ready (c .before .before .before .pre .1) (c .before .before .item .ensures) (c .before .if1 .left) (c .child .ensures) .1))
+    (λ c κs. (child-ready (c .before .before .before .before .before .before .pre .1) (c .before .before .before .before .before .item .ensures) (c .before .before .before .before .if1 .left) (c .before .before .before .child .ensures) .1, c .before .before .reads-variable .ensures (c .before .if2 .taken)))
+    (λ c κs. pointed-ready (c .before .before .before .before .before .before .before .before .pre .1) (c .before .before .before .before .before .before .before .item .ensures) (c .before .before .before .before .before .before .if1 .left) (c .before .read-variable .ensures))
+    (λ c. c .pointed .ensures _ _ _ (c .before .before .read-variable .ensures) (c .before .before .before .before .before .before .before .before .item .ensures) (c .before .before .before .before .before .before .child .ensures))
+    (λ c κs. falls-to (c .before .before .before .before .before .before .pre .0) (child-ready (c .before .before .before .before .before .before .pre .1) (c .before .before .before .before .before .item .ensures) (c .before .before .before .before .if1 .left) (c .before .before .before .child .ensures)))
+    (λ c κs. pointed-ready (c .before .before .before .before .before .before .before .before .pre .1) (c .before .before .before .before .before .before .before .item .ensures) (c .before .before .before .before .before .before .if1 .left) (c .before .value .ensures))
+    (λ c. c .pointed2 .ensures _ _ _ (c .before .before .value .ensures) (c .before .before .before .before .before .before .before .before .item .ensures) (c .before .before .before .before .before .before .child .ensures)))
+    (λ t. value-lts.spec (item-reads.Asked, item-reads.Learnt, number-reads.Asked, number-reads.Learnt, child-reads.Asked, child-reads.Learnt, value-below t, value.Post, long-reads.Asked, long-reads.Learnt, sum-reads.Asked, sum-reads.Learnt, bound-reads.Asked, bound-reads.Learnt, read-variable-reads.Asked, read-variable-reads.Learnt, place-below t, place.Post, type-of-reads.Asked, type-of-reads.Learnt, load-reads.Asked, load-reads.Learnt, keeps-reads.Asked, keeps-reads.Learnt, cast-reads.Asked, cast-reads.Learnt, size-reads.Asked, size-reads.Learnt, words-reads.Asked, words-reads.Learnt, allocate-reads.Asked, allocate-reads.Learnt) (value-at t) value.Post
     (λ c κs. value-item (c .pre .1) 0 (omega arith))
     (λ c κs. value-item (c .before .before .pre .1) 1 (omega arith))
     (λ c κs. c .before .before .before .before .pre .1 .room)
@@ -89,12 +86,8 @@ pub +place+value-spec : {M : Type 1} → statement M
     (λ c κs. c .before .before .before .before .before .before .before .before .before .if1 .left)
     (λ c κs. value-item (c .before .before .pre .1) 1 (omega arith))
     (λ c κs. read-item (c .before .before .before .pre .1) (c .before .before .item .ensures) (c .child3 .ensures) (c .before .match .keys3) 0 (omega arith))
-    (λ c κs. read-item (c .before .before .before .before .before .pre .1) (c .before .before .before .before .item .ensures) (c .before .before .child3 .ensures) (c .before .before .before .match .keys3) 1 (omega arith))
-    (λ c κs. search needs)
-    (λ c. search needs)
-    (λ c κs. value-type (c .before .before .before .before .before .before .before .pre .1))
-    (λ c κs. (c .before .before .before .before .before .before .before .before .before .pre .1 .room, λ under. variable-inside (c .before .before .before .before .before .before .before .before .before .pre .1) (c .before .before .before .before .before .before .before .before .item .ensures) (c .before .before .before .before .before .before .child3 .ensures) (c .before .before .before .before .before .before .before .match .keys3) (c .before .before .before .before .before .item5 .ensures) (c .before .before .before .before .if3 .taken) (c .before .before .long2 .ensures .0 ∙ c .before .before .before .item6 .ensures)))
-    (λ c. read-variable-answer (c .before .before .before .before .before .before .before .before .before .item .ensures) (c .before .before .before .before .before .before .before .child3 .ensures) (c .before .before .before .before .before .before .before .before .match .keys3) (c .before .before .before .before .before .before .item5 .ensures) (c .before .before .before .before .before .if3 .taken) (c .before .before .before .long2 .ensures .0 ∙ c .before .before .before .before .item6 .ensures) refl (variable-under (c .before .before .before .before .before .before .before .before .before .before .pre .1) (c .before .before .before .before .before .before .before .before .before .item .ensures) (c .before .before .before .before .before .before .before .child3 .ensures) (c .before .before .before .before .before .before .before .before .match .keys3) (c .before .before .before .before .before .before .item5 .ensures) (c .before .before .before .before .before .if3 .taken) (c .before .before .before .long2 .ensures .0 ∙ c .before .before .before .before .item6 .ensures)) (c .before .before .type-of .ensures) (c .load .ensures .0) (c .load .ensures .1))
+    (λ c κs. (c .before .before .before .before .before .before .pre .1, reads (c .before .before .before .before .before .item .ensures) (c .before .before .before .before .match .keys3) (c .before .before .before .child3 .ensures) (c .before .before .item5 .ensures) (c .before .if3 .taken)))
+    (λ c. c .read-variable .ensures)
     (λ c κs. falls-to (c .before .before .before .before .before .before .pre .0) (read-ready (c .before .before .before .before .before .before .pre .1) (c .before .before .before .before .before .item .ensures) (c .before .before .before .child3 .ensures) (c .before .before .before .before .match .keys3)))
     (λ c κs. value-type (c .before .before .before .before .before .before .before .pre .1))
     (λ c κs. (c .before .before .place .ensures .room, read-inside (c .before .before .before .before .before .before .before .before .before .pre .1) (c .before .before .before .before .before .before .before .before .item .ensures) (c .before .before .before .before .before .before .child3 .ensures) (c .before .before .before .before .before .before .before .match .keys3) (c .before .before .place .ensures)))
@@ -108,13 +101,19 @@ pub +place+value-spec : {M : Type 1} → statement M
     (λ c κs. c .before .before .before .before .value3 .ensures .room)
     (λ c κs. size-ready (c .before .before .before .pre .1) (c .before .before .item .ensures) (c .before .match .keys6))
     (λ c κs. value-item (c .before .before .pre .1) 1 (omega arith))
-    (λ c κs. falls-to (c .before .before .before .before .pre .0) (malloc-ready (c .before .before .before .before .pre .1) (c .before .before .before .item .ensures) (c .before .child6 .ensures) (malloc-kind (c .before .before .before .before .pre .1) (c .before .before .before .item .ensures) (c .before .before .match .rest .0 .0 .0 .0 .0 .1) (c .before .before .match .rest .0 .0 .0 .0 .1) (c .before .before .match .rest .0 .0 .0 .1) (c .before .before .match .rest .0 .0 .1) (c .before .before .match .rest .0 .1) (c .before .before .match .rest .1))))
+    (λ c κs. malloc-item (c .before .before .before .pre .1) (c .before .before .item .ensures) (c .child6 .ensures) (malloc-kind (c .before .before .before .pre .1) (c .before .before .item .ensures) (c .before .match .rest .0 .0 .0 .0 .0 .1) (c .before .match .rest .0 .0 .0 .0 .1) (c .before .match .rest .0 .0 .0 .1) (c .before .match .rest .0 .0 .1) (c .before .match .rest .0 .1) (c .before .match .rest .1)) 0 (omega arith))
+    (λ c κs. malloc-item (c .before .before .before .before .before .pre .1) (c .before .before .before .before .item .ensures) (c .before .before .child6 .ensures) (malloc-kind (c .before .before .before .before .before .pre .1) (c .before .before .before .before .item .ensures) (c .before .before .before .match .rest .0 .0 .0 .0 .0 .1) (c .before .before .before .match .rest .0 .0 .0 .0 .1) (c .before .before .before .match .rest .0 .0 .0 .1) (c .before .before .before .match .rest .0 .0 .1) (c .before .before .before .match .rest .0 .1) (c .before .before .before .match .rest .1)) 1 (omega arith))
     (λ c κs. search needs)
-    (λ c κs. (omega (arith, c .before .words .ensures, c .before .before .before .before .before .before .before .pre .1 .state .most), c .before .before .value4 .ensures .room))
+    (λ c κs. search needs)
+    (λ c κs. (omega (arith, c .before .words .ensures, c .before .before .before .before .before .before .before .before .before .pre .1 .state .most), c .before .before .before .before .before .before .before .before .before .pre .1 .room))
+    (λ c. malloc-constant-answer (c .before .before .before .before .before .before .before .before .before .item .ensures) (c .before .before .before .before .before .before .before .child6 .ensures) (malloc-kind (c .before .before .before .before .before .before .before .before .before .before .pre .1) (c .before .before .before .before .before .before .before .before .before .item .ensures) (c .before .before .before .before .before .before .before .before .match .rest .0 .0 .0 .0 .0 .1) (c .before .before .before .before .before .before .before .before .match .rest .0 .0 .0 .0 .1) (c .before .before .before .before .before .before .before .before .match .rest .0 .0 .0 .1) (c .before .before .before .before .before .before .before .before .match .rest .0 .0 .1) (c .before .before .before .before .before .before .before .before .match .rest .0 .1) (c .before .before .before .before .before .before .before .before .match .rest .1)) (c .before .before .words .ensures) (c .before .before .before .before .before .before .item7 .ensures) (c .before .before .before .before .before .if4 .taken) (c .before .before .before .before .item8 .ensures) (c .before .before .before .long2 .ensures .0) (omega (arith, c .before .before .before .long2 .ensures)) (c .allocate .ensures .0) (c .allocate .ensures .1))
+    (λ c κs. falls-to (c .before .before .before .before .before .before .pre .0) (malloc-ready (c .before .before .before .before .before .before .pre .1) (c .before .before .before .before .before .item .ensures) (c .before .before .before .child6 .ensures) (malloc-kind (c .before .before .before .before .before .before .pre .1) (c .before .before .before .before .before .item .ensures) (c .before .before .before .before .match .rest .0 .0 .0 .0 .0 .1) (c .before .before .before .before .match .rest .0 .0 .0 .0 .1) (c .before .before .before .before .match .rest .0 .0 .0 .1) (c .before .before .before .before .match .rest .0 .0 .1) (c .before .before .before .before .match .rest .0 .1) (c .before .before .before .before .match .rest .1))))
+    (λ c κs. search needs)
+    (λ c κs. (omega (arith, c .before .words2 .ensures, c .before .before .before .before .before .before .before .before .before .pre .1 .state .most), c .before .before .value4 .ensures .room))
     (λ c. constant-answer (c .before .before .before .before .item .ensures) (c .before .before .item2 .ensures) (c .before .before .before .match .keys1) (c .number .ensures .0) (c .number .ensures .1) (c .number .ensures .2))
     (λ c. sum-answer (c .before .before .before .before .before .before .before .before .before .before .before .before .before .before .before .item .ensures) (c .before .before .before .before .before .before .before .before .before .before .before .before .before .child .ensures) (c .before .before .before .before .before .before .before .before .before .before .before .before .before .before .match .keys2) (c .before .before .before .before .before .before .before .before .before .child2 .ensures) (c .before .before .before .before .before .before .before .before .before .before .before .value .ensures) (c .before .before .before .before .before .before .before .before .before .before .if1 .left) (c .before .before .before .value2 .ensures) (c .sum2 .ensures) (c .before .bound .ensures))
-    (λ c. read-answer (c .before .before .before .before .before .before .before .before .before .item .ensures) (c .before .before .before .before .before .before .before .child3 .ensures) (c .before .before .before .before .before .before .before .before .match .keys3) (c .before .before .type-of2 .ensures) (c .before .before .before .place .ensures) (c .load2 .ensures .0) (c .load2 .ensures .1))
+    (λ c. read-answer (c .before .before .before .before .before .before .before .before .before .item .ensures) (c .before .before .before .before .before .before .before .child3 .ensures) (c .before .before .before .before .before .before .before .before .match .keys3) (c .before .before .type-of .ensures) (c .before .before .before .place .ensures) (c .load .ensures .0) (c .load .ensures .1))
     (λ c. address-answer (c .before .before .before .before .item .ensures) (c .before .before .child4 .ensures) (c .before .before .before .match .keys4) (c .place2 .ensures))
-    (λ c. cast-answer (c .before .before .before .before .before .before .before .before .before .item .ensures) (c .before .before .before .before .before .before .before .child5 .ensures) (c .before .before .before .before .before .before .before .before .match .keys5) (c .before .before .before .before .type-of3 .ensures) (c .before .before .before .item7 .ensures) (c .before .before .keeps .ensures) (c .before .before .before .before .before .value3 .ensures) (c .cast .ensures .0) (c .cast .ensures .1) (c .cast .ensures .2))
+    (λ c. cast-answer (c .before .before .before .before .before .before .before .before .before .item .ensures) (c .before .before .before .before .before .before .before .child5 .ensures) (c .before .before .before .before .before .before .before .before .match .keys5) (c .before .before .before .before .type-of2 .ensures) (c .before .before .before .item6 .ensures) (c .before .before .keeps .ensures) (c .before .before .before .before .before .value3 .ensures) (c .cast .ensures .0) (c .cast .ensures .1) (c .cast .ensures .2))
     (λ c. size-answer (c .before .before .before .item .ensures) refl (c .before .before .match .keys6) (c .size .ensures .0) (c .size .ensures .1 .0) (c .size .ensures .1 .1))
-    (λ c. malloc-answer (c .before .before .before .before .before .before .before .item .ensures) (c .before .before .before .before .before .child6 .ensures) (malloc-kind (c .before .before .before .before .before .before .before .before .pre .1) (c .before .before .before .before .before .before .before .item .ensures) (c .before .before .before .before .before .before .match .rest .0 .0 .0 .0 .0 .1) (c .before .before .before .before .before .before .match .rest .0 .0 .0 .0 .1) (c .before .before .before .before .before .before .match .rest .0 .0 .0 .1) (c .before .before .before .before .before .before .match .rest .0 .0 .1) (c .before .before .before .before .before .before .match .rest .0 .1) (c .before .before .before .before .before .before .match .rest .1)) (c .before .before .words .ensures) (c .before .before .before .value4 .ensures) (c .allocate .ensures .0) (c .allocate .ensures .1)))
+    (λ c. malloc-answer (c .before .before .before .before .before .before .before .before .before .item .ensures) (c .before .before .before .before .before .before .before .child6 .ensures) (malloc-kind (c .before .before .before .before .before .before .before .before .before .before .pre .1) (c .before .before .before .before .before .before .before .before .before .item .ensures) (c .before .before .before .before .before .before .before .before .match .rest .0 .0 .0 .0 .0 .1) (c .before .before .before .before .before .before .before .before .match .rest .0 .0 .0 .0 .1) (c .before .before .before .before .before .before .before .before .match .rest .0 .0 .0 .1) (c .before .before .before .before .before .before .before .before .match .rest .0 .0 .1) (c .before .before .before .before .before .before .before .before .match .rest .0 .1) (c .before .before .before .before .before .before .before .before .match .rest .1)) (c .before .before .words2 .ensures) (c .before .before .before .value4 .ensures) (c .allocate2 .ensures .0) (c .allocate2 .ensures .1)))
