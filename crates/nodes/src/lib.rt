@@ -290,7 +290,7 @@ pub fn count_use(uses: &mut [u32; 512], x: u32)
     uses[i] += 1;
 }
 
-fn enter(notes: &mut [u32; 512], kind: u32, n: usize, x: Typed) -> Verdict
+fn enter(x: Typed, notes: &mut [u32; 512], kind: u32, n: usize) -> Verdict
     requires { ⌜ (n < 512) × Small x × (length (now notes) ≡ 512) ⌝ }
     ensures { λ r. ⌜ ((used : Words) → Told x kind n [] r (now (notes .entry)) (now (notes .exit)) used used) ⌝ }
 {
@@ -304,17 +304,17 @@ fn enter(notes: &mut [u32; 512], kind: u32, n: usize, x: Typed) -> Verdict
 }
 
 fn with_child(
+    x: Typed,
     notes: &mut [u32; 512],
     uses: &mut [u32; 512],
     kind: u32,
     n: usize,
     a: u32,
-    x: Typed,
 ) -> Verdict
     requires { ⌜ (n < 512) × Small x × (length (now notes) ≡ 512) × (typed-verdict x ≡ passes → Countable (now uses) a) ⌝ }
     ensures { λ r. ⌜ Told x kind n (a ∷ []) r (now (notes .entry)) (now (notes .exit)) (now (uses .entry)) (now (uses .exit)) ⌝ }
 {
-    if let Verdict::Refused(r, p) = enter(notes, kind, n, x) {
+    if let Verdict::Refused(r, p) = enter(x, notes, kind, n) {
         return Verdict::Refused(r, p);
     }
     count_use(uses, a);
@@ -322,18 +322,18 @@ fn with_child(
 }
 
 fn with_children(
+    x: Typed,
     notes: &mut [u32; 512],
     uses: &mut [u32; 512],
     kind: u32,
     n: usize,
     a: u32,
     b: u32,
-    x: Typed,
 ) -> Verdict
     requires { ⌜ (n < 512) × Small x × (length (now notes) ≡ 512) × (typed-verdict x ≡ passes → Countable-both (now uses) a b) ⌝ }
     ensures { λ r. ⌜ Told x kind n (a ∷ b ∷ []) r (now (notes .entry)) (now (notes .exit)) (now (uses .entry)) (now (uses .exit)) ⌝ }
 {
-    if let Verdict::Refused(r, p) = with_child(notes, uses, kind, n, a, x) {
+    if let Verdict::Refused(r, p) = with_child(x, notes, uses, kind, n, a) {
         return Verdict::Refused(r, p);
     }
     count_use(uses, b);
@@ -361,37 +361,28 @@ pub fn check_node(
     let a = t[place + 1];
     let b = t[place + 2];
     match kind {
-        1 => enter(notes, kind, n, variable(t, variables, place, a, b)),
+        1 => enter(variable(t, variables, place, a, b), notes, kind, n),
         2 => {
             let x = deref(t, notes, pointers.at, n, place, a, b);
-            with_child(notes, uses, kind, n, a, x)
+            with_child(x, notes, uses, kind, n, a)
         }
         3 => {
             let x = field(t, notes, first, fields, pointers.at, n, place, a, b);
-            with_child(notes, uses, kind, n, a, x)
+            with_child(x, notes, uses, kind, n, a)
         }
-        4 => enter(notes, kind, n, constant(place, a, b)),
-        5 => {
-            let x = sum(notes, n, place, a, b);
-            with_children(notes, uses, kind, n, a, b, x)
-        }
-        6 => {
-            let x = read(notes, n, place, a, b);
-            with_child(notes, uses, kind, n, a, x)
-        }
+        4 => enter(constant(place, a, b), notes, kind, n),
+        5 => with_children(sum(notes, n, place, a, b), notes, uses, kind, n, a, b),
+        6 => with_child(read(notes, n, place, a, b), notes, uses, kind, n, a),
         7 => {
             let x = address(notes, entry, n, place, a, b);
-            with_child(notes, uses, kind, n, a, x)
+            with_child(x, notes, uses, kind, n, a)
         }
         8 => {
             let x = cast(notes, pointers.count, n, place, a, b);
-            with_child(notes, uses, kind, n, a, x)
+            with_child(x, notes, uses, kind, n, a)
         }
-        9 => enter(notes, kind, n, size(records, pointers.count, place, a, b)),
-        10 => {
-            let x = malloc(notes, n, place, a, b);
-            with_child(notes, uses, kind, n, a, x)
-        }
+        9 => enter(size(records, pointers.count, place, a, b), notes, kind, n),
+        10 => with_child(malloc(notes, n, place, a, b), notes, uses, kind, n, a),
         _ => Verdict::Refused(7, place),
     }
 }

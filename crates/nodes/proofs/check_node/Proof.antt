@@ -12,7 +12,7 @@ use Rattle.nodes.proofs.check_node.Tie as tie
 enter-requires : tie.Need-enter-requires
 unfolding kind-of
 enter-requires c κs = let p = c .before .before .before .before .before .before .before .pre in
-    (p .0 .few, small-type (p .0) variable (rw (c .before .before .match .keys1)) refl (c .variable .ensures _ (placed (p .0))), p .2 .notes-length)
+    (p .0 .few, small-type (p .0) variable (rw (c .before .before .match .keys1)) refl (c .before .variable .ensures _ (placed (p .0))), p .2 .notes-length)
 
 with-child-requires : tie.Need-with-child-requires
 unfolding kind-of
@@ -27,7 +27,7 @@ with-child-requires-2 c κs = let p = c .before .before .before .before .before 
 enter-requires-2 : tie.Need-enter-requires-2
 unfolding kind-of
 enter-requires-2 c κs = let p = c .before .before .before .before .before .before .before .pre in
-    (p .0 .few, small-type (p .0) constant (rw (c .before .before .match .keys4)) refl (c .constant .ensures _ _ (placed (p .0))), p .2 .notes-length)
+    (p .0 .few, small-type (p .0) constant (rw (c .before .before .match .keys4)) refl (c .before .constant .ensures _ _ (placed (p .0))), p .2 .notes-length)
 
 with-children-requires : tie.Need-with-children-requires
 unfolding kind-of
@@ -50,13 +50,13 @@ with-child-requires-5 c κs = let p = c .before .before .before .before .before 
     (p .0 .few, small-type (p .0) cast (rw (c .before .before .before .before .match .keys8)) refl (c .before .before .cast .ensures _ (p .0) (p .1 .pointers-stand .total)), p .2 .notes-length, λ e. countable (p .2) (p .0 .few) (child-a (p .0) cast (rw (c .before .before .before .before .match .keys8)) refl (c .before .before .cast .ensures _ (p .0) (p .1 .pointers-stand .total)) value refl e))
 
 size-requires : tie.Need-size-requires
-size-requires c κs = let p = c .before .before .before .before .before .before .pre in
+size-requires c κs = let p = c .before .before .before .before .before .pre in
     omega (arith, p .1 .record-count, p .1 .pointers-stand .total, few-records (p .0 .noted-to .types-pass), few-pointers (p .0 .noted-to .types-pass), p .0 .inside)
 
 enter-requires-3 : tie.Need-enter-requires-3
 unfolding kind-of
 enter-requires-3 c κs = let p = c .before .before .before .before .before .before .before .pre in
-    (p .0 .few, small-type (p .0) size (rw (c .before .before .match .keys9)) refl (c .size .ensures _ _ (p .1 .record-count) (p .1 .pointers-stand .total) (placed (p .0))), p .2 .notes-length)
+    (p .0 .few, small-type (p .0) size (rw (c .before .before .match .keys9)) refl (c .before .size .ensures _ _ (p .1 .record-count) (p .1 .pointers-stand .total) (placed (p .0))), p .2 .notes-length)
 
 with-child-requires-6 : tie.Need-with-child-requires-6
 unfolding kind-of
@@ -65,7 +65,7 @@ with-child-requires-6 c κs = let p = c .before .before .before .before .before 
 
 returns : tie.Need-returns
 unfolding kind-of
-returns c = let p = c .before .before .before .before .before .before .before .before .pre in noted (p .0) variable (rw (c .before .before .before .match .keys1)) refl (c .before .variable .ensures _ (placed (p .0))) refl (c .enter .ensures _)
+returns c = let p = c .before .before .before .before .before .before .before .before .pre in noted (p .0) variable (rw (c .before .before .before .match .keys1)) refl (c .before .before .variable .ensures _ (placed (p .0))) refl (c .enter .ensures _)
 
 returns-2 : tie.Need-returns-2
 unfolding kind-of
@@ -77,7 +77,7 @@ returns-3 c = let p = c .before .before .before .before .before .before .before 
 
 returns-4 : tie.Need-returns-4
 unfolding kind-of
-returns-4 c = let p = c .before .before .before .before .before .before .before .before .pre in noted (p .0) constant (rw (c .before .before .before .match .keys4)) refl (c .before .constant .ensures _ _ (placed (p .0))) refl (c .enter2 .ensures _)
+returns-4 c = let p = c .before .before .before .before .before .before .before .before .pre in noted (p .0) constant (rw (c .before .before .before .match .keys4)) refl (c .before .before .constant .ensures _ _ (placed (p .0))) refl (c .enter2 .ensures _)
 
 returns-5 : tie.Need-returns-5
 unfolding kind-of
@@ -97,7 +97,7 @@ returns-8 c = let p = c .before .before .before .before .before .before .before 
 
 returns-9 : tie.Need-returns-9
 unfolding kind-of
-returns-9 c = let p = c .before .before .before .before .before .before .before .before .pre in noted (p .0) size (rw (c .before .before .before .match .keys9)) refl (c .before .size .ensures _ _ (p .1 .record-count) (p .1 .pointers-stand .total) (placed (p .0))) refl (c .enter3 .ensures _)
+returns-9 c = let p = c .before .before .before .before .before .before .before .before .pre in noted (p .0) size (rw (c .before .before .before .match .keys9)) refl (c .before .before .size .ensures _ _ (p .1 .record-count) (p .1 .pointers-stand .total) (placed (p .0))) refl (c .enter3 .ensures _)
 
 returns-10 : tie.Need-returns-10
 unfolding kind-of
