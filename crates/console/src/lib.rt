@@ -6,8 +6,13 @@ use stream::least;
 use stream::make_room;
 use stream::put_after;
 use text::Scanner;
-ghost use Prim.Native.Nat.{_≤_};
+ghost use Prim.Native.Nat.{_+_, _*_, _≤_};
+ghost use mathlib.Core.List.{[], _∷_};
+ghost use mathlib.Core.Path.{_≡_};
 ghost use lib.ListN.{length};
+ghost use Rattle.machine.specs.Run.{answer-of};
+ghost use Rattle.stream.specs.Items.{word, number, Puts-items};
+ghost use Rattle.console.specs.Lines.{space, ending-line, unused, word-line, memory-lines, Prints};
 ghost use Rattle.console.specs.Request.{Requested};
 
 // What the numbers of a text ask for: a run in memory of some length, of the table that starts at some place; or they are no input.
@@ -56,13 +61,17 @@ impl Request {
 }
 
 // A word and two numbers.
-fn put_pair(out: &mut [u8], at: usize, word: &[u8], x: u64, y: u64) -> usize {
-    let at = put_after(out, at, word, x);
+fn put_pair(out: &mut [u8], at: usize, bytes: &[u8], x: u64, y: u64) -> usize
+    ensures { λ r. ⌜ Puts-items (word (now (bytes .entry)) ∷ number x ∷ space ∷ number y ∷ []) (now (out .entry)) at (now (out .exit)) r ⌝ }
+{
+    let at = put_after(out, at, bytes, x);
     put_after(out, at, b" ", y)
 }
 
 // How a call ended, without the line's end.
-pub fn put_ending(out: &mut [u8], at: usize, a: Answer) -> usize {
+pub fn put_ending(out: &mut [u8], at: usize, a: Answer) -> usize
+    ensures { λ r. ⌜ Puts-items (ending-line (answer-of a)) (now (out .entry)) at (now (out .exit)) r ⌝ }
+{
     match a {
         Answer::Refused(number, place) => put_pair(
             out,
@@ -84,7 +93,9 @@ pub fn put_ending(out: &mut [u8], at: usize, a: Answer) -> usize {
 }
 
 // U after a run; 0 after a refusal, which leaves no memory to print.
-pub fn unused_after(a: Answer) -> usize {
+pub fn unused_after(a: Answer) -> usize
+    ensures { λ r. ⌜ r ≡ unused (answer-of a) ⌝ }
+{
     match a {
         Answer::Refused(_, _) => 0,
         Answer::Done(unused) => index(unused),
@@ -94,7 +105,9 @@ pub fn unused_after(a: Answer) -> usize {
 }
 
 // The line of one word: address, value, base, end.
-fn put_word(out: &mut [u8], at: usize, address: usize, value: u32, base: u32, end: u32) -> usize {
+fn put_word(out: &mut [u8], at: usize, address: usize, value: u32, base: u32, end: u32) -> usize
+    ensures { λ r. ⌜ Puts-items (word-line address value base end) (now (out .entry)) at (now (out .exit)) r ⌝ }
+{
     let at = text::put_number(out, at, address as u64);
     let at = put_after(out, at, b" ", long(value));
     let at = put_after(out, at, b" ", long(base));
@@ -102,7 +115,7 @@ fn put_word(out: &mut [u8], at: usize, address: usize, value: u32, base: u32, en
     text::put_bytes(out, at, b"\n")
 }
 
-// The lines of the words from 1 to `unused` - 1.
+// The lines of the words from 1 to `unused` - 1. They stand in `out` where it has room for them all; else some are flushed.
 fn put_memory(
     out: &mut [u8],
     at: usize,
@@ -112,6 +125,7 @@ fn put_memory(
     ends: &[u32],
 ) -> usize
     requires { ⌜ (unused ≤ length (now values)) × (unused ≤ length (now bases)) × (unused ≤ length (now ends)) ⌝ }
+    ensures { λ r. ⌜ (at + 128 * unused ≤ length (now (out .entry)) → Puts-items (memory-lines unused (now (values .entry)) (now (bases .entry)) (now (ends .entry))) (now (out .entry)) at (now (out .exit)) r) ⌝ }
 {
     let mut at = at;
     for i in 1..unused {
@@ -121,7 +135,7 @@ fn put_memory(
     at
 }
 
-// How a call ended, and after a run the memory, of which `memory` words were lent.
+// How a call ended, and after a run the memory, of which `memory` words were lent. All of it stands in `out` where there is room.
 fn put_answer(
     out: &mut [u8],
     at: usize,
@@ -132,6 +146,7 @@ fn put_answer(
     ends: &[u32],
 ) -> usize
     requires { ⌜ (memory ≤ length (now values)) × (memory ≤ length (now bases)) × (memory ≤ length (now ends)) ⌝ }
+    ensures { λ r. ⌜ Prints (answer-of a) memory (now (values .entry)) (now (bases .entry)) (now (ends .entry)) (now (out .entry)) at (now (out .exit)) r ⌝ }
 {
     let at = make_room(out, at);
     let at = put_ending(out, at, a);

@@ -1,8 +1,11 @@
 // Standard input in parts that a byte ends, and standard output in large pieces.
 use libc::STDIN_FILENO;
 use libc::STDOUT_FILENO;
-ghost use Prim.Native.Nat.{_≤_};
+ghost use Prim.Native.Nat.{_+_, _≤_};
+ghost use mathlib.Core.List.{[], _∷_};
+ghost use mathlib.Core.Path.{_≡_};
 ghost use lib.ListN.{length};
+ghost use Rattle.stream.specs.Items.{word, number, Puts-items};
 
 // Bytes `from` to `to` of a buffer that holds `filled` bytes of the input. The next part starts at `next`.
 pub struct Part {
@@ -24,7 +27,9 @@ impl Part {
     pub const LAST: u32 = 2;
 
     // Before the first part.
-    pub fn new() -> Part {
+    pub fn new() -> Part
+        ensures { λ r. ⌜ (r .from ≡ 0) × (r .to ≡ 0) × (r .next ≡ 0) × (r .filled ≡ 0) × (r .state ≡ 0) ⌝ }
+    {
         Part {
             from: 0,
             to: 0,
@@ -100,13 +105,15 @@ pub fn next_part(buffer: &mut [u8], last: Part, b: u8) -> Part
 }
 
 pub fn least(a: usize, b: usize) -> usize
-    ensures { λ r. ⌜ (r ≤ a) × (r ≤ b) ⌝ }
+    ensures { λ r. ⌜ (r ≤ a) × (r ≤ b) × (a ≤ b → r ≡ a) ⌝ }
 {
     if a < b { a } else { b }
 }
 
 // Writes the first `at` bytes to standard output, and answers the next free place, 0.
-pub fn flush(out: &[u8], at: usize) -> usize {
+pub fn flush(out: &[u8], at: usize) -> usize
+    ensures { λ r. ⌜ r ≡ 0 ⌝ }
+{
     if at <= out.len() {
         io::write_all(STDOUT_FILENO, &out[0..at]);
     }
@@ -117,7 +124,9 @@ pub fn flush(out: &[u8], at: usize) -> usize {
 const ROOM: usize = 128;
 
 // The next free place, after a flush if less than `ROOM` is left.
-pub fn make_room(out: &[u8], at: usize) -> usize {
+pub fn make_room(out: &[u8], at: usize) -> usize
+    ensures { λ r. ⌜ (at + 128 ≤ length (now (out .entry)) → r ≡ at) ⌝ }
+{
     if at <= out.len() {
         if ROOM <= out.len() - at {
             return at;
@@ -127,7 +136,9 @@ pub fn make_room(out: &[u8], at: usize) -> usize {
 }
 
 // Some bytes and then a number.
-pub fn put_after(out: &mut [u8], at: usize, bytes: &[u8], x: u64) -> usize {
+pub fn put_after(out: &mut [u8], at: usize, bytes: &[u8], x: u64) -> usize
+    ensures { λ r. ⌜ Puts-items (word (now (bytes .entry)) ∷ number x ∷ []) (now (out .entry)) at (now (out .exit)) r ⌝ }
+{
     let at = text::put_bytes(out, at, bytes);
     text::put_number(out, at, x)
 }

@@ -1,16 +1,24 @@
--- `console::put_memory` is safe and ends. Assumes nothing.
+-- `console::put_memory` meets its contract. The loop's invariant: the lines of the words before i are put, if there is room for all. Assumes nothing.
 use Prim.Native.Nat.{_-_}
-use mathlib.Core.Path.{_≡_}
-use lib.ListN.{length}
+use native.Mathlib.Omega.{arith}
 use borrow.Author.Needs.{needs}
+use Rattle.console.proofs.Lines.{Printing, printing-none, printing-more, printing-all}
 use Rattle.console.proofs.put_memory.Statement.{statement}
 use Rattle.console.proofs.put_memory.Tie as tie
 
 abbrev Inv-loop : tie.InvT-loop
-Inv-loop out₀ at unused values bases ends at₀ i₀ out at' i = length out ≡ length out₀
+Inv-loop out₀ at unused values bases ends at₀ i₀ out at' i = Printing values bases ends out₀ at unused out at' i
 
 abbrev μ-loop : tie.MeasureT-loop
 μ-loop out₀ at unused values bases ends at₀ i₀ out at' i = unused - i
+
+loop-again : tie.Need-loop-again Inv-loop μ-loop
+loop-again c =
+    let w = c .before .before .put-word in
+    printing-more _ _ _ _ _ _ _ (c .before .before .before .before .before .before .before .before .before .before .loop .inv) (omega arith) (c .before .before .before .before .before .before .before .make-room .ensures) (w .ensures) (w .kept .0)
+
+returns : tie.Need-returns Inv-loop μ-loop
+returns c = printing-all _ _ _ _ _ _ (c .before .loop .inv) (omega arith)
 
 pub put-memory-spec : {M : Type 1} → statement M
 put-memory-spec =
@@ -18,7 +26,7 @@ put-memory-spec =
     (tie.spec
     Inv-loop
     μ-loop
-    (λ c. search needs)  -- loop-holds
+    (λ c. printing-none _ _ _ _ _ _)
     (λ c κs. search needs)  -- make-room-requires
     (λ c. search needs)  -- mul-put-word
     (λ c. search needs)  -- shared-slice-read-put-word
@@ -29,6 +37,6 @@ put-memory-spec =
     (λ c κs. search needs)  -- put-word-requires
     (λ c. search needs)  -- add-i
     (λ c. search needs)  -- loop-less
-    (λ c. search needs)  -- loop-again
-    (λ c. search needs)  -- same-length
-    (λ c. search needs))  -- returns
+    loop-again
+    (λ c. c .before .loop .inv .same)
+    returns)

@@ -1,0 +1,62 @@
+-- The lines that the bench program prints for a call.
+use Prim.Native.Nat.{ℕ, zero, suc, _+_, _*_, _-_, _≤_}
+use mathlib.Core.List.{List, [], _∷_, _++_}
+use lib.ListN.{length, getD}
+use Rattle.semantics.specs.Run.{Answer, refusal, ending, done, abort, out-of-memory, stuck}
+use Rattle.stream.specs.Items.{Item, word, number, Puts-items}
+
+-- Byte 32 is a space, byte 10 a line end.
+abbrev pub space : Item
+space = word (32 ∷ [])
+
+abbrev pub line-end : Item
+line-end = word (10 ∷ [])
+
+-- "its first line begins with one of the words done, abort, noroom or refused": the bytes of each word and a space.
+abbrev pub done-word : Item
+done-word = word (100 ∷ 111 ∷ 110 ∷ 101 ∷ 32 ∷ [])
+
+abbrev pub abort-word : Item
+abort-word = word (97 ∷ 98 ∷ 111 ∷ 114 ∷ 116 ∷ 32 ∷ [])
+
+abbrev pub noroom-word : Item
+noroom-word = word (110 ∷ 111 ∷ 114 ∷ 111 ∷ 111 ∷ 109 ∷ 32 ∷ [])
+
+abbrev pub refused-word : Item
+refused-word = word (114 ∷ 101 ∷ 102 ∷ 117 ∷ 115 ∷ 101 ∷ 100 ∷ 32 ∷ [])
+
+-- "`done U`, `abort command U`, `noroom command U`, `refused number place`", without the line's end.
+unfoldable pub ending-line : Answer → List Item
+ending-line (refusal n place) = refused-word ∷ number n ∷ space ∷ number place ∷ []
+ending-line (ending done u) = done-word ∷ number u ∷ []
+ending-line (ending (abort command) u) = abort-word ∷ number command ∷ space ∷ number u ∷ []
+ending-line (ending (out-of-memory command) u) = noroom-word ∷ number command ∷ space ∷ number u ∷ []
+-- No run ends so (`Spatially-safe`), and no answer says it.
+ending-line (ending (stuck command) u) = []
+
+-- "After a run one line follows for each word from 1 to U − 1": the U of these words, so that none follows a refusal.
+unfoldable pub unused : Answer → ℕ
+unused (refusal n place) = 0
+unused (ending e u) = u
+
+-- "address, value, base, end", with the line's end.
+unfoldable pub word-line : (address value base end : ℕ) → List Item
+word-line address value base end = number address ∷ space ∷ number value ∷ space ∷ number base ∷ space ∷ number end ∷ line-end ∷ []
+
+-- The lines of the words 1 to n, of a memory of three lists.
+unfoldable pub lines-to : ℕ → (values bases ends : List ℕ) → List Item
+lines-to zero values bases ends = []
+lines-to (suc n) values bases ends =
+    lines-to n values bases ends ++ word-line (suc n) (getD values (suc n) 0) (getD bases (suc n) 0) (getD ends (suc n) 0)
+
+-- "one line follows for each word from 1 to U − 1"
+abbrev pub memory-lines : ℕ → (values bases ends : List ℕ) → List Item
+memory-lines u values bases ends = lines-to (u - 1) values bases ends
+
+-- All that is printed for a call, whose memory is the three lists.
+abbrev pub answer-lines : Answer → (values bases ends : List ℕ) → List Item
+answer-lines a values bases ends = ending-line a ++ (line-end ∷ memory-lines (unused a) values bases ends)
+
+-- It stands in `out` from `at` on, if there is room for it and U is in the memory that was lent.
+pub record Prints (a : Answer) (memory : ℕ) (values bases ends out : List ℕ) (at : ℕ) (out′ : List ℕ) (r : ℕ) : Type 0 where
+  pub fits : at + 128 * (1 + unused a) ≤ length out → unused a ≤ memory → Puts-items (answer-lines a values bases ends) out at out′ r
