@@ -15,9 +15,10 @@ use Rattle.semantics.proofs.Passed.{require-passes}
 use Rattle.semantics.proofs.Trees.{Node-ok, node-ok, is-child-true}
 use Rattle.semantics.proofs.Invariant.{Inv, Datum-ok, Good, good-ok}
 use Rattle.semantics.proofs.Steps.{place-good, value-good}
-use Rattle.evaluator.specs.Lists.{column, part, Lists, Node-ready, Reads-variable, Field-node, Field-ready, Target-word, Target-ready}
-use Rattle.evaluator.specs.Result.{failed, state-of, Kept, Bounded, answers-ok, answers-failed, answers-full, Datum-answers, Location-answers, Variable-answered, Deref-answered, Field-answered, Sum-answered, Load-answered, Cast-answered, Malloc-answered, Ready, Place-ready, Pointed-ready, Value-ready, Place-answered, Value-answered, Assigned-answered}
-use Rattle.evaluator.proofs.Finish.{passed-on, touched}
+use Rattle.evaluator.specs.Lists.{part, Lists, Node-ready, Reads-variable, Field-node, Field-ready, Target-word, Target-ready}
+use Rattle.steps.specs.Answers.{column, failed, state-of, Kept, Bounded, answers-ok, answers-failed, answers-full, Datum-answers, Location-answers, Variable-answered, Deref-answered, Field-answered, Sum-answered, Load-answered, Cast-answered, Malloc-answered}
+use Rattle.evaluator.specs.Result.{Ready, Place-ready, Pointed-ready, Value-ready, Place-answered, Value-answered, Assigned-answered}
+use Rattle.steps.proofs.Finish.{passed-on, touched}
 use Rattle.evaluator.proofs.Lookups.{item-inside, type-inside, item-is}
 use Rattle.evaluator.proofs.Nodes.{place-kind, value-kind, value-node, field-kind, size-kind, read-kind, Value-child, Place-child, offset-of, count-of, cast-keeps, constant-node, size-node, variable-node, deref-node, field-node, sum-node, read-node, address-node, cast-node, malloc-node}
 

@@ -2,16 +2,13 @@
 use Prim.Native.Nat.{ℕ, _+_, _*_, _≤_, _<_}
 use mathlib.Core.Bool.{true}
 use mathlib.Core.Path.{_≡_}
-use mathlib.Core.List.{List, []}
-use lib.ListN.{length, getD}
+use mathlib.Core.List.{List}
+use lib.ListN.{length}
 use Rattle.semantics.specs.Words.{Words, word}
 use Rattle.semantics.specs.Table.{records, fields, pointers, nodes, count, item, known-target, first-field, field, value, sort-of, node-kind, node-type}
 use Rattle.semantics.proofs.Passed.{Passed}
+use Rattle.steps.specs.Answers.{column}
 use Rattle.layout.specs.Types.{words-before, Tabulated}
-
--- List j of some lists.
-abbrev pub column : List Words → ℕ → Words
-column l j = getD l j []
 
 -- Word j of node n.
 abbrev pub part : List Words → ℕ → ℕ → ℕ

@@ -12,7 +12,7 @@ use Rattle.semantics.specs.Run.{begin, run, call}
 use Rattle.semantics.proofs.Passed.{Passed, passed, section-ok, section-end}
 use Rattle.semantics.proofs.Safety.{Begun, begun, equally-long, begin-inv}
 use Rattle.evaluator.specs.Lists.{Lists}
-use Rattle.evaluator.specs.Result.{state-of}
+use Rattle.steps.specs.Answers.{state-of}
 use Rattle.layout.specs.Layout.{verdict-of, section-of, layout, layout-by, Stands}
 use Rattle.layout.specs.declared.Verdict as told
 use Rattle.layout.specs.declared.Verdict.the-variants as the

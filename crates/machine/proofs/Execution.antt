@@ -16,7 +16,7 @@ use Rattle.semantics.proofs.Invariant.{Inv}
 use Rattle.semantics.proofs.Passed.{Passed, section-ok, section-end}
 use Rattle.semantics.proofs.Trees.{command-ok}
 use Rattle.semantics.proofs.Safety.{commands-ok}
-use Rattle.evaluator.specs.Result.{failed, state-of, Answers, answers-ok, answers-failed, answers-full}
+use Rattle.steps.specs.Answers.{failed, state-of, Answers, answers-ok, answers-failed, answers-full}
 use Rattle.machine.specs.Command.{lists, Command-nodes, Command-ready, Command-answered}
 use Rattle.machine.specs.Run.{answer-of, Executable, Executed}
 use Rattle.machine.specs.declared.Answer.{Answer}

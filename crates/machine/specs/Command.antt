@@ -10,8 +10,9 @@ use Rattle.semantics.specs.Syntax.{place-of, value-of}
 use Rattle.semantics.specs.Rules.{Datum, Location, Event, Shortfall, Outcome, fails, no-room, assign-step, assign}
 use Rattle.semantics.proofs.Invariant.{Inv, Datum-ok, Location-ok}
 use Rattle.semantics.proofs.Steps.{Place-ok, Value-ok}
-use Rattle.evaluator.specs.Lists.{column, Lists}
-use Rattle.evaluator.specs.Result.{failed, full, state-of, Answers, Ready}
+use Rattle.evaluator.specs.Lists.{Lists}
+use Rattle.steps.specs.Answers.{column, failed, full, state-of, Answers}
+use Rattle.evaluator.specs.Result.{Ready}
 
 -- Values, bases and ends.
 abbrev pub lists : Words → Words → Words → List Words

@@ -11,7 +11,7 @@ use Rattle.semantics.specs.Run as semantics
 use Rattle.semantics.specs.Run.{refusal, ending, done, abort, out-of-memory, Result, result-of, commands-below}
 use Rattle.semantics.proofs.Invariant.{Inv}
 use Rattle.evaluator.specs.Lists.{Lists}
-use Rattle.evaluator.specs.Result.{state-of}
+use Rattle.steps.specs.Answers.{state-of}
 use Rattle.layout.specs.Layout.{layout}
 use Rattle.layout.specs.declared.Table.{Table}
 use Rattle.table.specs.Promises.{Left}

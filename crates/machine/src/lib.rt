@@ -6,7 +6,7 @@ ghost use lib.ListN.{length, replicate};
 ghost use mathlib.Core.Bool.{_&&_, _||_};
 ghost use lib.Dec.{leb, ltb, eqb};
 ghost use lib.Seq.{sets};
-ghost use Rattle.evaluator.specs.Result.{state-of};
+ghost use Rattle.steps.specs.Answers.{state-of};
 ghost use Rattle.semantics.specs.Table.{count};
 ghost use Rattle.semantics.specs.Safety.{Spatially-safe};
 ghost use Rattle.semantics.specs.Check.{check, each, input-fault, arguments-fault};

@@ -1,6 +1,6 @@
 -- `evaluator::place` and `evaluator::value` meet their contracts. The node number falls at each call. Assumes nothing.
 use Prim.Native.Nat.{ℕ, _<_}
-use mathlib.Core.Path.{refl, _∙_}
+use mathlib.Core.Path.{refl}
 use native.Mathlib.Omega.{arith}
 use borrow.Author.Needs.{needs}
 use borrow.Fn.Kinds.{In}
@@ -11,26 +11,26 @@ use Rattle.evaluator.proofs.+place+value.Lts-place as place-lts
 use Rattle.evaluator.proofs.value.Reads as value
 use Rattle.evaluator.proofs.value.Kinds as value-kinds
 use Rattle.evaluator.proofs.+place+value.Lts-value as value-lts
-use Rattle.evaluator.proofs.allocate.Reads as allocate-reads
-use Rattle.evaluator.proofs.bound.Reads as bound-reads
-use Rattle.evaluator.proofs.cast.Reads as cast-reads
+use Rattle.steps.proofs.allocate.Reads as allocate-reads
+use Rattle.steps.proofs.bound.Reads as bound-reads
+use Rattle.steps.proofs.cast.Reads as cast-reads
 use Rattle.evaluator.proofs.child.Reads as child-reads
 use Rattle.evaluator.proofs.item.Reads as item-reads
-use Rattle.evaluator.proofs.keeps.Reads as keeps-reads
-use Rattle.evaluator.proofs.load.Reads as load-reads
-use Rattle.evaluator.proofs.number.Reads as number-reads
+use Rattle.steps.proofs.keeps.Reads as keeps-reads
+use Rattle.steps.proofs.load.Reads as load-reads
+use Rattle.steps.proofs.number.Reads as number-reads
 use Rattle.evaluator.proofs.pointed.Reads as pointed-reads
 use Rattle.evaluator.proofs.read_variable.Reads as read-variable-reads
 use Rattle.evaluator.proofs.reads_variable.Reads as reads-variable-reads
 use Rattle.evaluator.proofs.size.Reads as size-reads
-use Rattle.evaluator.proofs.sum.Reads as sum-reads
+use Rattle.steps.proofs.sum.Reads as sum-reads
 use Rattle.evaluator.proofs.type_of.Reads as type-of-reads
-use Rattle.evaluator.proofs.variable.Reads as variable-reads
-use Rattle.evaluator.proofs.words.Reads as words-reads
+use Rattle.steps.proofs.variable.Reads as variable-reads
+use Rattle.steps.proofs.words.Reads as words-reads
 use Rattle.layout.proofs.long.Reads as long-reads
 use Rattle.evaluator.proofs.+place+value.{statement}
 use Rattle.evaluator.proofs.+place+value.Tie.{close}
-use Rattle.evaluator.proofs.Evaluation.{falls-to, is-node, pointed-ready, reads, malloc-item, malloc-constant-answer, place-item, variable-small, child-ready, field-ready, value-item, value-type, sum-ready, right-item, right-ready, read-ready, read-item, read-inside, variable-inside, variable-under, address-ready, cast-ready, cast-type, size-ready, malloc-kind, malloc-ready, variable-answer, deref-answer, field-answer, constant-answer, size-answer, sum-ended-answer, sum-answer, sum-constant-answer, read-answer, read-variable-answer, address-answer, cast-answer, malloc-answer}
+use Rattle.evaluator.proofs.Evaluation.{falls-to, is-node, pointed-ready, reads, malloc-item, malloc-constant-answer, place-item, variable-small, child-ready, value-item, value-type, sum-ready, right-item, right-ready, read-ready, read-item, read-inside, address-ready, cast-ready, cast-type, size-ready, malloc-kind, malloc-ready, variable-answer, constant-answer, size-answer, sum-ended-answer, sum-answer, sum-constant-answer, read-answer, address-answer, cast-answer, malloc-answer}
 
 abbrev μ-place : Measures 5 place-kinds.ps ℕ
 μ-place κs a = a .1 .1 .0

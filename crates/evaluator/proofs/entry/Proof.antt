@@ -4,7 +4,7 @@ use mathlib.Core.Path.{sym, ap, subst}
 use mathlib.Core.List.{List}
 use borrow.Author.Needs.{needs}
 use lib.ListN.{length, getD}
-use Rattle.evaluator.proofs.Memory.{element}
+use Rattle.steps.proofs.Memory.{element}
 use Rattle.evaluator.proofs.entry.Statement.{statement}
 use Rattle.evaluator.proofs.entry.Tie as tie
 

@@ -1,6 +1,5 @@
 -- `evaluator::pointed` meets its contract.
 use borrow.Author.Needs.{needs}
-use native.Mathlib.Omega.{arith}
 use Rattle.evaluator.proofs.Evaluation.{deref-answer, field-answer}
 use Rattle.evaluator.proofs.pointed.Statement.{statement}
 use Rattle.evaluator.proofs.pointed.Tie as tie

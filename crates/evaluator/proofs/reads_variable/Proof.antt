@@ -1,7 +1,5 @@
 -- `evaluator::reads_variable` meets its contract.
-use borrow.Author.Needs.{needs}
 use native.Mathlib.Omega.{arith}
-use mathlib.Core.Path.{_∙_}
 use mathlib.Core.Bool.{false≢true}
 use borrow.Author.Tests.{eqb-true}
 use Rattle.evaluator.proofs.Evaluation.{node-item, place-read, reads}

@@ -6,7 +6,7 @@ use borrow.Author.Needs.{needs}
 use mathlib.Core.List.{[]}
 use lib.ListN.{length}
 use Rattle.semantics.specs.Words.{word}
-use Rattle.evaluator.specs.Result.{state-of}
+use Rattle.steps.specs.Answers.{state-of}
 use Rattle.machine.specs.Command.{lists}
 use Rattle.machine.proofs.Execution.{So-far, none-yet, all-done, command-words, command-ready, command-goes-on, command-aborts, command-full}
 use Rattle.machine.proofs.execute.Statement.{statement}

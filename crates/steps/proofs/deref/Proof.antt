@@ -1,8 +1,8 @@
--- `evaluator::deref` meets its contract. Assumes nothing.
+-- `steps::deref` meets its contract. Assumes nothing.
 use borrow.Author.Needs.{needs}
-use Rattle.evaluator.proofs.Finish.{deref-ended, deref-yes, deref-no}
-use Rattle.evaluator.proofs.deref.Statement.{statement}
-use Rattle.evaluator.proofs.deref.Tie as tie
+use Rattle.steps.proofs.Finish.{deref-ended, deref-yes, deref-no}
+use Rattle.steps.proofs.deref.Statement.{statement}
+use Rattle.steps.proofs.deref.Tie as tie
 
 returns : tie.Need-returns
 returns c = deref-ended (c .if1 .taken)

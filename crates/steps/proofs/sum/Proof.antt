@@ -1,9 +1,9 @@
--- `evaluator::sum` meets its contract. Assumes nothing.
+-- `steps::sum` meets its contract. Assumes nothing.
 use borrow.Author.Needs.{needs}
 use native.Mathlib.Omega.{arith}
-use Rattle.evaluator.proofs.Finish.{sum-ended, sum-done}
-use Rattle.evaluator.proofs.sum.Statement.{statement}
-use Rattle.evaluator.proofs.sum.Tie as tie
+use Rattle.steps.proofs.Finish.{sum-ended, sum-done}
+use Rattle.steps.proofs.sum.Statement.{statement}
+use Rattle.steps.proofs.sum.Tie as tie
 
 returns : tie.Need-returns
 returns c = sum-ended (c .if1 .taken)

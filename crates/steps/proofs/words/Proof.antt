@@ -1,10 +1,10 @@
--- `evaluator::words` meets its contract. Assumes nothing.
+-- `steps::words` meets its contract. Assumes nothing.
 use mathlib.Core.Path.{sym, ap}
 use borrow.Author.Needs.{needs}
 use lib.ListN.{length}
-use Rattle.evaluator.proofs.Memory.{element}
-use Rattle.evaluator.proofs.words.Statement.{statement}
-use Rattle.evaluator.proofs.words.Tie as tie
+use Rattle.steps.proofs.Memory.{element}
+use Rattle.steps.proofs.words.Statement.{statement}
+use Rattle.steps.proofs.words.Tie as tie
 
 returns : tie.Need-returns
 returns c = ap length (sym (element (c .args .m .now) 0))

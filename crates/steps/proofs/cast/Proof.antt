@@ -1,10 +1,10 @@
--- `evaluator::cast` meets its contract. Assumes nothing.
+-- `steps::cast` meets its contract. Assumes nothing.
 use borrow.Author.Needs.{needs}
 use mathlib.Core.Path.{refl}
-use Rattle.evaluator.proofs.Memory.{kept-all}
-use Rattle.evaluator.proofs.Finish.{cast-int, cast-pointer}
-use Rattle.evaluator.proofs.cast.Statement.{statement}
-use Rattle.evaluator.proofs.cast.Tie as tie
+use Rattle.steps.proofs.Memory.{kept-all}
+use Rattle.steps.proofs.Finish.{cast-int, cast-pointer}
+use Rattle.steps.proofs.cast.Statement.{statement}
+use Rattle.steps.proofs.cast.Tie as tie
 
 returns : tie.Need-returns
 returns c = (refl, cast-int (c .before .before .if1 .taken) (c .bound .ensures .base) (c .bound .ensures .end), c .bound .ensures .kept)

@@ -1,11 +1,11 @@
--- `evaluator::load` meets its contract. Assumes nothing.
+-- `steps::load` meets its contract. Assumes nothing.
 use borrow.Author.Needs.{needs}
 use native.Mathlib.Omega.{arith}
 use mathlib.Core.Path.{_∙_}
-use Rattle.evaluator.proofs.Memory.{kept-all}
-use Rattle.evaluator.proofs.Finish.{load-ended, load-int, load-pointer}
-use Rattle.evaluator.proofs.load.Statement.{statement}
-use Rattle.evaluator.proofs.load.Tie as tie
+use Rattle.steps.proofs.Memory.{kept-all}
+use Rattle.steps.proofs.Finish.{load-ended, load-int, load-pointer}
+use Rattle.steps.proofs.load.Statement.{statement}
+use Rattle.steps.proofs.load.Tie as tie
 
 returns : tie.Need-returns
 returns c = (load-ended (c .if1 .taken), kept-all (c .before .pre .0))

@@ -1,11 +1,11 @@
--- `evaluator::field` meets its contract. Assumes nothing.
+-- `steps::field` meets its contract. Assumes nothing.
 use borrow.Author.Needs.{needs}
 use native.Mathlib.Omega.{arith}
 use mathlib.Core.Path.{_∙_}
-use Rattle.evaluator.proofs.Memory.{kept-all}
-use Rattle.evaluator.proofs.Finish.{inside, field-ended, field-yes, field-no}
-use Rattle.evaluator.proofs.field.Statement.{statement}
-use Rattle.evaluator.proofs.field.Tie as tie
+use Rattle.steps.proofs.Memory.{kept-all}
+use Rattle.steps.proofs.Finish.{inside, field-ended, field-yes, field-no}
+use Rattle.steps.proofs.field.Statement.{statement}
+use Rattle.steps.proofs.field.Tie as tie
 
 returns : tie.Need-returns
 returns c = (field-ended (c .if1 .taken), kept-all (c .before .pre))

@@ -7,7 +7,7 @@ use lib.ListN.{length, getD, set, length-set, List·getD-map}
 use lib.Seq.{getD-set-same, getD-set-other}
 use denote.Ref.{RefT}
 use Rattle.semantics.specs.Words.{Words, word}
-use Rattle.evaluator.specs.Result.{Kept, Bounded}
+use Rattle.steps.specs.Answers.{Kept, Bounded}
 
 -- An element that is not there counts as this reference to nothing.
 abbrev pub nothing : RefT (List ℕ)

@@ -1,13 +1,13 @@
--- `evaluator::cell` meets its contract. Assumes nothing.
+-- `steps::cell` meets its contract. Assumes nothing.
 use Prim.Native.Nat.{ℕ, _<_}
 use mathlib.Core.Path.{sym, ap, subst}
 use mathlib.Core.List.{List}
 use native.Mathlib.Omega.{arith}
 use borrow.Author.Needs.{needs}
 use lib.ListN.{length, getD}
-use Rattle.evaluator.proofs.Memory.{element}
-use Rattle.evaluator.proofs.cell.Statement.{statement}
-use Rattle.evaluator.proofs.cell.Tie as tie
+use Rattle.steps.proofs.Memory.{element}
+use Rattle.steps.proofs.cell.Statement.{statement}
+use Rattle.steps.proofs.cell.Tie as tie
 
 index-2-result : tie.Need-index-2-result
 index-2-result c = subst (λ (l : List ℕ). c .args .w < length l) (element (c .args .m .now) (c .args .j)) (c .pre .2)

@@ -1,11 +1,11 @@
--- `evaluator::allocate` meets its contract. Assumes nothing.
+-- `steps::allocate` meets its contract. Assumes nothing.
 use borrow.Author.Needs.{needs}
 use native.Mathlib.Omega.{arith}
 use mathlib.Core.Path.{_∙_}
-use Rattle.evaluator.proofs.Memory.{unused-set}
-use Rattle.evaluator.proofs.Finish.{malloc-ended, malloc-none, malloc-some, malloc-full}
-use Rattle.evaluator.proofs.allocate.Statement.{statement}
-use Rattle.evaluator.proofs.allocate.Tie as tie
+use Rattle.steps.proofs.Memory.{unused-set}
+use Rattle.steps.proofs.Finish.{malloc-ended, malloc-none, malloc-some, malloc-full}
+use Rattle.steps.proofs.allocate.Statement.{statement}
+use Rattle.steps.proofs.allocate.Tie as tie
 
 returns : tie.Need-returns
 returns c = (malloc-ended (c .if1 .taken), c .before .pre .1)

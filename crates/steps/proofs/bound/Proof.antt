@@ -1,8 +1,8 @@
--- `evaluator::bound` meets its contract. Assumes nothing.
+-- `steps::bound` meets its contract. Assumes nothing.
 use borrow.Author.Needs.{needs}
-use Rattle.evaluator.proofs.Memory.{bounded}
-use Rattle.evaluator.proofs.bound.Statement.{statement}
-use Rattle.evaluator.proofs.bound.Tie as tie
+use Rattle.steps.proofs.Memory.{bounded}
+use Rattle.steps.proofs.bound.Statement.{statement}
+use Rattle.steps.proofs.bound.Tie as tie
 
 returns : tie.Need-returns
 returns c = bounded (c .args .base) (c .args .end) (c .args .s .now) (c .pre)

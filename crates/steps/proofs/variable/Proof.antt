@@ -1,9 +1,9 @@
--- `evaluator::variable` meets its contract. Assumes nothing.
+-- `steps::variable` meets its contract. Assumes nothing.
 use borrow.Author.Needs.{needs}
 use mathlib.Core.Path.{refl}
-use Rattle.evaluator.proofs.Finish.{variable-answered}
-use Rattle.evaluator.proofs.variable.Statement.{statement}
-use Rattle.evaluator.proofs.variable.Tie as tie
+use Rattle.steps.proofs.Finish.{variable-answered}
+use Rattle.steps.proofs.variable.Statement.{statement}
+use Rattle.steps.proofs.variable.Tie as tie
 
 returns : tie.Need-returns
 returns c = (variable-answered refl (c .long .ensures .0) (c .before .bound .ensures .base) (c .before .bound .ensures .end) (c .long .ensures .1), c .before .bound .ensures .kept)

@@ -13,8 +13,7 @@ use Rattle.semantics.specs.Table.{is-pointer}
 use Rattle.semantics.specs.Rules.{Datum, unbounded, Location, variable-location, Event, State, Outcome, bind, in-bounds, checked, deref-step, field-step, touchable, contents, read-step, sum-step, cast-step, malloc-step}
 use Rattle.semantics.proofs.Tests.{in-bounds-true}
 use Rattle.semantics.proofs.Invariant.{permitted-used, Location-ok, Good, good-ok}
-use Rattle.evaluator.specs.Lists.{column}
-use Rattle.evaluator.specs.Result.{failed, full, state-of, Answers, answers-ok, answers-failed, answers-full, Location-answers, Datum-answers, within-bounds, Variable-answered, Deref-answered, Field-answered, Sum-answered, Load-answered, Cast-answered, Malloc-answered}
+use Rattle.steps.specs.Answers.{column, failed, full, state-of, Answers, answers-ok, answers-failed, answers-full, Location-answers, Datum-answers, within-bounds, Variable-answered, Deref-answered, Field-answered, Sum-answered, Load-answered, Cast-answered, Malloc-answered}
 
 -- ---- bounds
 

@@ -1,9 +1,9 @@
--- `evaluator::within` meets its contract. Assumes nothing.
+-- `steps::within` meets its contract. Assumes nothing.
 use borrow.Author.Needs.{needs}
 use native.Mathlib.Omega.{arith}
-use Rattle.evaluator.proofs.Finish.{within-yes, within-no}
-use Rattle.evaluator.proofs.within.Statement.{statement}
-use Rattle.evaluator.proofs.within.Tie as tie
+use Rattle.steps.proofs.Finish.{within-yes, within-no}
+use Rattle.steps.proofs.within.Statement.{statement}
+use Rattle.steps.proofs.within.Tie as tie
 
 returns : tie.Need-returns
 returns c = (within-yes _ _ _ _ (c .before .before .long .ensures .0) (c .long2 .ensures .0) (c .before .if1 .taken), omega arith)
