@@ -2,21 +2,20 @@
 ghost use mathlib.Core.Path.{_≡_};
 ghost use Prim.Native.Nat.{_+_, _<_, _^_};
 ghost use mathlib.Core.List.{[], map};
-ghost use lib.ListN.{length, replicate};
-ghost use mathlib.Core.Bool.{_&&_, _||_};
-ghost use lib.Dec.{leb, ltb, eqb};
-ghost use lib.Seq.{sets};
+ghost use lib.ListN.{length};
 ghost use Rattle.steps.specs.Answers.{state-of};
 ghost use Rattle.semantics.specs.Table.{count};
 ghost use Rattle.semantics.specs.Safety.{Spatially-safe};
-ghost use Rattle.semantics.specs.Check.{check, each, input-fault, arguments-fault};
+ghost use Rattle.semantics.specs.Check.{check};
 ghost use Rattle.semantics.specs.Run.{call};
-ghost use Rattle.layout.specs.Layout.{verdict-of, Stands};
+ghost use Rattle.layout.specs.Layout.{verdict-of};
 ghost use Rattle.layout.specs.Layout as layout-specs;
 ghost use Rattle.machine.specs.Run.{Is, Program, Startable, Executable, Executed};
 ghost use Rattle.machine.specs.Command.{lists, Command-ready, Evaluated, Stored, Command-answered};
+use arguments::check_arguments;
+use arguments::clear;
+use arguments::set_inputs;
 use layout::Parsed;
-use layout::Section;
 use layout::Table;
 use layout::Verdict;
 use layout::index;
@@ -139,91 +138,6 @@ fn execute(
         c += 1;
     }
     Answer::Done(s[2])
-}
-
-// Sets every word of a list to 0.
-fn clear(list: &mut [u32])
-    ensures { λ r. ⌜ now (list .exit) ≡ replicate (length (now (list .entry))) 0 ⌝ }
-{
-    let n = list.len();
-    for i in 0..n {
-        list[i] = 0;
-    }
-}
-
-// Sets the variables' values: word 1 + i to input i.
-fn set_inputs(values: &mut [u32], inputs: &[u32])
-    requires { ⌜ length (now inputs) < length (now values) ⌝ }
-    ensures { λ r. ⌜ now (values .exit) ≡ sets (now (values .entry)) 1 (now (inputs .entry)) ⌝ }
-{
-    let n = inputs.len();
-    for i in 0..n {
-        values[i + 1] = inputs[i];
-    }
-}
-
-// A variable takes any input if it is an int, and 0 else.
-fn fits(kind: u32, input: u32) -> bool
-    ensures { λ r. ⌜ r ≡ (eqb kind 0 || eqb input 0) ⌝ }
-{
-    if kind == 0 {
-        return true;
-    }
-    input == 0
-}
-
-// 11 for the first pointer whose input is not 0.
-fn check_inputs(t: &[u32], variables: Section, inputs: &[u32]) -> Verdict
-    requires { ⌜ (Stands (now t) 3 variables) × (length (now inputs) ≡ count (now t) 3) ⌝ }
-    ensures { λ r. ⌜ verdict-of r ≡ each (count (now (t .entry)) 3) (input-fault (now (t .entry)) (now (inputs .entry))) ⌝ }
-{
-    let at = variables.at;
-    let n = variables.count;
-    for i in 0..n {
-        let place = at + i;
-        if !fits(t[place], inputs[i]) {
-            return Verdict::Refused(11, i);
-        }
-    }
-    Verdict::Passes
-}
-
-// The three lists are equally long, with room for the variables and word 0, and have at most 65,536 words.
-fn lengths_fit(variables: usize, values: usize, bases: usize, ends: usize) -> bool
-    ensures { λ r. ⌜ r ≡ (eqb values bases && eqb values ends && ltb variables values && leb values 65536) ⌝ }
-{
-    if values != bases {
-        return false;
-    }
-    if values != ends {
-        return false;
-    }
-    if values <= variables {
-        return false;
-    }
-    values <= 65536
-}
-
-// 10 for the lengths of the three lists, then 11 for the inputs.
-fn check_arguments(
-    t: &[u32],
-    variables: Section,
-    inputs: &[u32],
-    values: usize,
-    bases: usize,
-    ends: usize,
-) -> Verdict
-    requires { ⌜ Stands (now t) 3 variables ⌝ }
-    ensures { λ r. ⌜ verdict-of r ≡ arguments-fault (now (t .entry)) (now (inputs .entry)) values bases ends ⌝ }
-{
-    let n = variables.count;
-    if !lengths_fit(n, values, bases, ends) {
-        return Verdict::Refused(10, 0);
-    }
-    if inputs.len() != n {
-        return Verdict::Refused(11, n);
-    }
-    check_inputs(t, variables, inputs)
 }
 
 // The commands of a table that passed the check, from the memory that a run begins with: lends the evaluator the table's lists.

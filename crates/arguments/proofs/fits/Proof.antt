@@ -1,7 +1,7 @@
--- `machine::fits` meets its contract. Assumes nothing.
+-- `arguments::fits` meets its contract. Assumes nothing.
 use borrow.Author.Tests.{eq-eqb, ne-eqb}
-use Rattle.machine.proofs.fits.Statement.{statement}
-use Rattle.machine.proofs.fits.Tie as tie
+use Rattle.arguments.proofs.fits.Statement.{statement}
+use Rattle.arguments.proofs.fits.Tie as tie
 
 returns : tie.Need-returns
 returns c = rw (eq-eqb _ 0 (c .if1 .taken))

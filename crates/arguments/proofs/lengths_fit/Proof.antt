@@ -1,7 +1,7 @@
--- `machine::lengths_fit` meets its contract. Assumes nothing.
+-- `arguments::lengths_fit` meets its contract. Assumes nothing.
 use borrow.Author.Tests.{eq-eqb, ne-eqb, lt-ltb, le-ltb}
-use Rattle.machine.proofs.lengths_fit.Statement.{statement}
-use Rattle.machine.proofs.lengths_fit.Tie as tie
+use Rattle.arguments.proofs.lengths_fit.Statement.{statement}
+use Rattle.arguments.proofs.lengths_fit.Tie as tie
 
 returns : tie.Need-returns
 returns c = rw (ne-eqb _ _ (c .if1 .taken))

@@ -1,4 +1,4 @@
--- `machine::check_inputs` meets its contract. The loop's invariant: the inputs before i pass. Assumes nothing.
+-- `arguments::check_inputs` meets its contract. The loop's invariant: the inputs before i pass. Assumes nothing.
 use Prim.Native.Nat.{_≤_, _-_}
 use mathlib.Core.Path.{_≡_, refl}
 use native.Mathlib.Omega.{arith}
@@ -6,9 +6,9 @@ use borrow.Author.Needs.{needs}
 use borrow.Author.Tests.{not-true, not-false}
 use Rattle.semantics.specs.Check.{passes, each, input-fault}
 use Rattle.layout.proofs.Laws.{each-more, each-refuses, each-all}
-use Rattle.machine.proofs.Arguments.{input-passes, input-refused}
-use Rattle.machine.proofs.check_inputs.Statement.{statement}
-use Rattle.machine.proofs.check_inputs.Tie as tie
+use Rattle.arguments.proofs.Arguments.{input-passes, input-refused}
+use Rattle.arguments.proofs.check_inputs.Statement.{statement}
+use Rattle.arguments.proofs.check_inputs.Tie as tie
 
 abbrev Inv-loop : tie.InvT-loop
 Inv-loop t inputs at n i₀ i = (i ≤ n) × (each i (input-fault t inputs) ≡ passes)

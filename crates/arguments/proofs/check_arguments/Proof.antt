@@ -1,10 +1,10 @@
--- `machine::check_arguments` meets its contract. Assumes nothing.
+-- `arguments::check_arguments` meets its contract. Assumes nothing.
 use borrow.Author.Needs.{needs}
 use mathlib.Core.Path.{_∙_}
 use borrow.Author.Tests.{not-true, not-false}
-use Rattle.machine.proofs.Arguments.{lengths-refused, count-refused, inputs-judged}
-use Rattle.machine.proofs.check_arguments.Statement.{statement}
-use Rattle.machine.proofs.check_arguments.Tie as tie
+use Rattle.arguments.proofs.Arguments.{lengths-refused, count-refused, inputs-judged}
+use Rattle.arguments.proofs.check_arguments.Statement.{statement}
+use Rattle.arguments.proofs.check_arguments.Tie as tie
 
 returns : tie.Need-returns
 returns c = lengths-refused _ _ _ _ _ (c .before .before .before .before .pre .total) (c .before .lengths-fit .ensures) (not-true _ (c .if1 .taken))

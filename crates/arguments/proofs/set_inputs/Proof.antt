@@ -1,12 +1,12 @@
--- `machine::set_inputs` meets its contract. The loop's invariant: the first i inputs are stored. Assumes nothing.
+-- `arguments::set_inputs` meets its contract. The loop's invariant: the first i inputs are stored. Assumes nothing.
 use Prim.Native.Nat.{_≤_, _-_}
 use mathlib.Core.Path.{_≡_, refl}
 use native.Mathlib.Omega.{arith}
 use borrow.Author.Needs.{needs}
 use lib.ListN.{length}
-use Rattle.machine.proofs.Lists.{Copied, copied-none, copied-length, copied-more, copied-all}
-use Rattle.machine.proofs.set_inputs.Statement.{statement}
-use Rattle.machine.proofs.set_inputs.Tie as tie
+use Rattle.arguments.proofs.Lists.{Copied, copied-none, copied-length, copied-more, copied-all}
+use Rattle.arguments.proofs.set_inputs.Statement.{statement}
+use Rattle.arguments.proofs.set_inputs.Tie as tie
 
 abbrev Inv-loop : tie.InvT-loop
 Inv-loop values₀ inputs n i₀ values i = (n ≡ length inputs) × (i ≤ n) × Copied values₀ inputs values i
