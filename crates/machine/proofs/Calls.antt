@@ -20,8 +20,12 @@ use Rattle.layout.proofs.Laws.{or-else-pass, or-else-refuse, item-at}
 use Rattle.nodes.specs.Nodes.{note}
 use Rattle.layout.specs.declared.Table.{Table}
 use Rattle.layout.specs.declared.Parsed.the-variants as parsed
-use Rattle.machine.specs.Command.{lists}
-use Rattle.machine.specs.Run.{Is, Program, Startable, Executed}
+use Rattle.semantics.specs.Rules.{State}
+use Rattle.commands.specs.Command.{lists}
+use Rattle.commands.specs.Execution as commands
+use Rattle.commands.specs.Execution.{ended-of}
+use Rattle.commands.specs.declared.Ended.{Ended}
+use Rattle.machine.specs.Run.{answer-of, Is, Program, Startable, Executed}
 use Rattle.machine.specs.declared.Answer.{Answer}
 use Rattle.machine.specs.declared.Answer.the-variants.{Refused}
 
@@ -142,3 +146,8 @@ module _ {t first before notes : Words} {l : Table} (pr : Program t first before
         pub call-executed : {r : Answer} {vs′ bs′ es′ : Words} → Executed t (state-of (lists v₁ b₁ e₁) (count t variables + 1) []) r vs′ bs′ es′ → Is (call t inputs vs bs es) r vs′ bs′ es′
         unfolding call run
         call-executed h = rw (same-fault ∙ sym e, begins) (h .meets)
+
+-- A run's ending, told as an answer.
+pub told-executed : {t : Words} {s : State} {e : Ended} {r : Answer} {vs bs es : Words} → commands.Executed t s e vs bs es → answer-of r ≡ ended-of e → Executed t s r vs bs es
+told-executed h same =
+    let m = h .meets in record { meets = record { answer = same ∙ m .answer; values = m .values; bases = m .bases; ends = m .ends } }

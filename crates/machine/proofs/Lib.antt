@@ -1,4 +1,2 @@
 -- Laws that the functions' proofs cite.
-pub mod Commands
-pub mod Execution
 pub mod Calls

@@ -1,21 +1,20 @@
 -- A whole call: the answer's enum as the paper's numbers and values, and what the lists hold afterwards.
-use Prim.Native.Nat.{ℕ, _+_, _≤_}
+use Prim.Native.Nat.{_+_, _≤_}
 use mathlib.Core.Path.{_≡_}
-use mathlib.Core.List.{List, []}
+use mathlib.Core.List.{[]}
 use lib.ListN.{length}
 use Rattle.semantics.specs.Words.{Words}
-use Rattle.semantics.specs.Table.{variables, commands, count-place, count}
+use Rattle.semantics.specs.Table.{variables, commands, count}
 use Rattle.semantics.specs.Check.{check, passes}
 use Rattle.semantics.specs.Rules.{State}
 use Rattle.semantics.specs.Run as semantics
 use Rattle.semantics.specs.Run.{refusal, ending, done, abort, out-of-memory, Result, result-of, commands-below}
 use Rattle.semantics.proofs.Invariant.{Inv}
-use Rattle.evaluator.specs.Lists.{Lists}
 use Rattle.steps.specs.Answers.{state-of}
 use Rattle.layout.specs.Layout.{layout}
 use Rattle.layout.specs.declared.Table.{Table}
 use Rattle.table.specs.Promises.{Left}
-use Rattle.machine.specs.Command.{lists}
+use Rattle.commands.specs.Command.{lists}
 use Rattle.machine.specs.declared.Answer.{Answer}
 use Rattle.machine.specs.declared.Answer.the-variants.{Refused, Done, Abort, NoRoom}
 
@@ -45,13 +44,6 @@ pub record Startable (t : Words) (l : Table) (first before notes vs bs es : Word
   pub inv : Inv (count t variables) (length vs) (state-of (lists vs bs es) (count t variables + 1) [])
   pub most : length vs ≤ 65536
 
--- The commands stand at `at`, l are the table's lists, and the three lists hold a state that a run of the table can begin with.
-pub record Executable (t : Words) (l : List Words) (at total u : ℕ) (vs bs es : Words) : Type 0 where
-  pub lists-of : Lists t l
-  pub first : at ≡ count-place t commands + 1
-  pub all : total ≡ count t commands
-  pub inv : Inv (count t variables) (length vs) (state-of (lists vs bs es) u [])
-  pub most : length vs ≤ 65536
-
+-- The commands were run from state s, and ended so.
 pub record Executed (t : Words) (s : State) (r : Answer) (vs bs es : Words) : Type 0 where
   pub meets : Is (result-of (commands-below t (count t commands) s)) r vs bs es

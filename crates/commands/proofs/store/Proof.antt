@@ -1,8 +1,8 @@
--- `machine::store` meets its contract. Assumes nothing.
+-- `commands::store` meets its contract. Assumes nothing.
 use borrow.Author.Needs.{needs}
-use Rattle.machine.proofs.Commands.{stored-int, stored-pointer}
-use Rattle.machine.proofs.store.Statement.{statement}
-use Rattle.machine.proofs.store.Tie as tie
+use Rattle.commands.proofs.Commands.{stored-int, stored-pointer}
+use Rattle.commands.proofs.store.Statement.{statement}
+use Rattle.commands.proofs.store.Tie as tie
 
 returns : tie.Need-returns
 returns c = stored-int (c .if1 .taken)

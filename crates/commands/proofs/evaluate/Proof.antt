@@ -1,8 +1,8 @@
--- `machine::evaluate` meets its contract. Assumes nothing.
+-- `commands::evaluate` meets its contract. Assumes nothing.
 use borrow.Author.Needs.{needs}
-use Rattle.machine.proofs.Commands.{place-first, value-next, place-ended, evaluated}
-use Rattle.machine.proofs.evaluate.Statement.{statement}
-use Rattle.machine.proofs.evaluate.Tie as tie
+use Rattle.commands.proofs.Commands.{place-first, value-next, place-ended, evaluated}
+use Rattle.commands.proofs.evaluate.Statement.{statement}
+use Rattle.commands.proofs.evaluate.Tie as tie
 
 assigned-requires : tie.Need-assigned-requires
 assigned-requires c κs = place-first (c .before .before .before .before .before .pre)

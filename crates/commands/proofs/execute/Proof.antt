@@ -1,4 +1,4 @@
--- `machine::execute` meets its contract. The loop's invariant: the commands below c are done as the rules say. Assumes nothing.
+-- `commands::execute` meets its contract. The loop's invariant: the commands below c are done as the rules say. Assumes nothing.
 use Prim.Native.Nat.{_≤_, _-_}
 use mathlib.Core.Path.{_≡_, refl}
 use native.Mathlib.Omega.{arith}
@@ -7,10 +7,10 @@ use mathlib.Core.List.{[]}
 use lib.ListN.{length}
 use Rattle.semantics.specs.Words.{word}
 use Rattle.steps.specs.Answers.{state-of}
-use Rattle.machine.specs.Command.{lists}
-use Rattle.machine.proofs.Execution.{So-far, none-yet, all-done, command-words, command-ready, command-goes-on, command-aborts, command-full}
-use Rattle.machine.proofs.execute.Statement.{statement}
-use Rattle.machine.proofs.execute.Tie as tie
+use Rattle.commands.specs.Command.{lists}
+use Rattle.commands.proofs.Execution.{So-far, none-yet, all-done, command-words, command-ready, command-goes-on, command-aborts, command-full}
+use Rattle.commands.proofs.execute.Statement.{statement}
+use Rattle.commands.proofs.execute.Tie as tie
 
 abbrev Inv-loop : tie.InvT-loop
 Inv-loop t at total l first values₀ bases₀ ends₀ s₀ c₀ values bases ends s c =

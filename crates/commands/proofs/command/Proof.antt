@@ -1,9 +1,9 @@
--- `machine::command` meets its contract. Assumes nothing.
+-- `commands::command` meets its contract. Assumes nothing.
 use borrow.Author.Needs.{needs}
 use mathlib.Core.Path.{refl}
-use Rattle.machine.proofs.Commands.{command-ended, store-inside, type-inside, command-done}
-use Rattle.machine.proofs.command.Statement.{statement}
-use Rattle.machine.proofs.command.Tie as tie
+use Rattle.commands.proofs.Commands.{command-ended, store-inside, type-inside, command-done}
+use Rattle.commands.proofs.command.Statement.{statement}
+use Rattle.commands.proofs.command.Tie as tie
 
 returns : tie.Need-returns
 returns c = command-ended (c .before .evaluate .ensures) (c .if1 .taken)

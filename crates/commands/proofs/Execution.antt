@@ -17,10 +17,10 @@ use Rattle.semantics.proofs.Passed.{Passed, section-ok, section-end}
 use Rattle.semantics.proofs.Trees.{command-ok}
 use Rattle.semantics.proofs.Safety.{commands-ok}
 use Rattle.steps.specs.Answers.{failed, state-of, Answers, answers-ok, answers-failed, answers-full}
-use Rattle.machine.specs.Command.{lists, Command-nodes, Command-ready, Command-answered}
-use Rattle.machine.specs.Run.{answer-of, Executable, Executed}
-use Rattle.machine.specs.declared.Answer.{Answer}
-use Rattle.machine.specs.declared.Answer.the-variants.{Done, Abort, NoRoom}
+use Rattle.commands.specs.Command.{lists, Command-nodes, Command-ready, Command-answered}
+use Rattle.commands.specs.Execution.{ended-of, Executable, Executed}
+use Rattle.commands.specs.declared.Ended.{Ended}
+use Rattle.commands.specs.declared.Ended.the-variants.{Done, Abort, NoRoom}
 
 -- The commands below c, run from s, are done and leave these lists and this U.
 pub record So-far (t : Words) (s : State) (vs bs es : Words) (u c : ℕ) : Type 0 where
@@ -51,7 +51,7 @@ ended-stays t s c (suc n) e s′ h other less = go (ℕ-discrete c (suc n)) (end
     go (no q) below = rw (below (omega arith)) (then-ended t n e s′ other)
 
 -- A run that ended is what was answered.
-executed : {t : Words} {s : State} {vs bs es : Words} {u : ℕ} (e : Ending) (log : List Event) (r : Answer) → answer-of r ≡ ending e u
+executed : {t : Words} {s : State} {vs bs es : Words} {u : ℕ} (e : Ending) (log : List Event) (r : Ended) → ended-of r ≡ ending e u
     → commands-below t (count t commands) s ≡ ended e (state-of (lists vs bs es) u log) → Executed t s r vs bs es
 executed e log r h runs = record { meets = rw runs (record { answer = h; values = refl; bases = refl; ends = refl }) }
 
@@ -123,7 +123,7 @@ module _ {t : Words} {l : List Words} {vs₀ bs₀ es₀ : Words} {at total u₀
             go (answers-full log i) runs = absurd (omega arith)
 
         -- The run has ended at this command.
-        ended-here : (e : Ending) (a : Answer) (log : List Event) → (e ≡ done → ⊥) → answer-of a ≡ ending e (word s′ 2)
+        ended-here : (e : Ending) (a : Ended) (log : List Event) → (e ≡ done → ⊥) → ended-of a ≡ ending e (word s′ 2)
             → commands-below t (suc c) (state-of (lists vs₀ bs₀ es₀) u₀ []) ≡ ended e (state-of (lists vs′ bs′ es′) (word s′ 2) log)
             → Executed t (state-of (lists vs₀ bs₀ es₀) u₀ []) a vs′ bs′ es′
         ended-here e a log other h runs = executed e log a h (ended-stays t _ (suc c) (count t commands) e _ runs other (omega (arith, x .all)))
