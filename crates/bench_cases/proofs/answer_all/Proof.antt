@@ -1,5 +1,6 @@
 -- `bench_cases::answer_all` is safe and ends: the measure is the number of turns that are left. Assumes nothing.
 use mathlib.Core.Path.{_≡_}
+use native.Mathlib.Omega.{arith}
 use lib.ListN.{length}
 use borrow.Author.Needs.{needs}
 use Rattle.bench_cases.proofs.answer_all.Statement.{statement}
@@ -25,7 +26,7 @@ answer-all-spec =
     (λ c. search needs)  -- sub-take-part
     (λ c. search needs)  -- part-take-part-start
     (λ c. search needs)  -- part-take-part-end
-    (λ c κs. search needs)  -- take-part-requires
+    (λ c κs. omega (arith, c .before .before .before .before .before .before .before .before .before .before .before .before .before .before .loop .inv, c .before .before .before .before .before .before .before .before .before .before .before .before .before .before .before .before .before .before .before .before .before .before .before .pre))  -- take-part-requires
     (λ c. search needs)  -- sub-turns
     (λ c. search needs)  -- loop-less
     (λ c. search needs)  -- loop-again
