@@ -76,6 +76,10 @@ place-ready {t} lists node room h ch e =
 pub falls-to : {a n t : ℕ} {R : Type 0} → n ≡ t → (a < n) × R → (a < t) × R
 falls-to e h = (omega (arith, h .0), h .1)
 
+-- A child's child is smaller too.
+pub falls-through : {a c n : ℕ} {R : Type 0} → (a < c) × R → c < n → (a < n) × R
+falls-through h less = (omega (arith, h .0), h .1)
+
 module _ {l m : List Words} {n : ℕ} {s : Words} (h : Place-ready l m n s) where
   pub place-item : (j : ℕ) → j < 3 → (n < 512) × (j < 3) × (n * 3 + j < length (column l 0))
   place-item j less = item-inside (h .lists) (h .node) j less
@@ -102,9 +106,6 @@ module _ {l m : List Words} {n : ℕ} {s : Words} (h : Place-ready l m n s) wher
     pub field-ready : (k ≡ 1 → ⊥) → (k ≡ 2 → ⊥) → Field-ready l n
     field-ready q r =
         record { table = h .table; is-field = record { lists = h .lists; node = h .node; kind = field-kind (h .table) n (is-field q r) } }
-
-pub is-node : {l m : List Words} {n : ℕ} {s : Words} → Value-ready l m n s → Node-ready l n
-is-node h = record { table = h .table; lists = h .lists; node = h .node }
 
 -- The child of a place that is no variable was worked out.
 pub pointed-ready : {l m : List Words} {n k a v : ℕ} {s s₀ s₁ : Words} → Place-ready l m n s → k ≡ part l n 0 → (k ≡ 1 → ⊥) → Value-answered l m a s₀ v s₁ → Pointed-ready l n k s₁

@@ -147,7 +147,7 @@ fn pointed(l: &[&[u32]; 6], n: usize, kind: u32, v: u64, s: &mut [u32; 3]) -> u6
     field(v, offset(l, n), count(l, n), s)
 }
 
-// The place that node n is, with its bounds.
+// The place that node n is, with its bounds. A pointer that is read is read here, without a call of `value`.
 pub fn place(l: &[&[u32]; 6], m: &[&[u32]; 3], n: usize, s: &mut [u32; 3]) -> u64
     requires { ⌜ Place-ready (map (λ x. now x) (now l)) (map (λ x. now x) (now m)) n (now s) ⌝ }
     ensures { λ r. ⌜ Place-answered (map (λ x. now x) (now (l .entry))) (map (λ x. now x) (now (m .entry))) n (now (s .entry)) r (now (s .exit)) ⌝ }
@@ -157,11 +157,17 @@ pub fn place(l: &[&[u32]; 6], m: &[&[u32]; 3], n: usize, s: &mut [u32; 3]) -> u6
         return variable(item(l, n, 1), s);
     }
     let c = child(l, n, 1);
-    if reads_variable(l, c) {
+    if item(l, c, 0) != 6 {
+        let v = value(l, m, c, s);
+        return pointed(l, n, kind, v, s);
+    }
+    let g = child(l, c, 1);
+    if item(l, g, 0) == 1 {
         let v = read_variable(l, m, c, s);
         return pointed(l, n, kind, v, s);
     }
-    let v = value(l, m, c, s);
+    let at = place(l, m, g, s);
+    let v = load(m, at, type_of(l, c), s);
     pointed(l, n, kind, v, s)
 }
 

@@ -21,7 +21,6 @@ use Rattle.steps.proofs.load.Reads as load-reads
 use Rattle.steps.proofs.number.Reads as number-reads
 use Rattle.evaluator.proofs.pointed.Reads as pointed-reads
 use Rattle.evaluator.proofs.read_variable.Reads as read-variable-reads
-use Rattle.evaluator.proofs.reads_variable.Reads as reads-variable-reads
 use Rattle.evaluator.proofs.size.Reads as size-reads
 use Rattle.steps.proofs.sum.Reads as sum-reads
 use Rattle.evaluator.proofs.type_of.Reads as type-of-reads
@@ -30,7 +29,7 @@ use Rattle.steps.proofs.words.Reads as words-reads
 use Rattle.layout.proofs.long.Reads as long-reads
 use Rattle.evaluator.proofs.+place+value.{statement}
 use Rattle.evaluator.proofs.+place+value.Tie.{close}
-use Rattle.evaluator.proofs.Evaluation.{falls-to, is-node, pointed-ready, reads, malloc-item, malloc-constant-answer, place-item, variable-small, child-ready, value-item, value-type, sum-ready, right-item, right-ready, read-ready, read-item, read-inside, address-ready, cast-ready, cast-type, size-ready, malloc-kind, malloc-ready, variable-answer, constant-answer, size-answer, sum-ended-answer, sum-answer, sum-constant-answer, read-answer, address-answer, cast-answer, malloc-answer}
+use Rattle.evaluator.proofs.Evaluation.{falls-to, falls-through, pointed-ready, reads, malloc-item, malloc-constant-answer, place-item, variable-small, child-ready, value-item, value-type, sum-ready, right-item, right-ready, read-ready, read-item, read-inside, address-ready, cast-ready, cast-type, size-ready, malloc-kind, malloc-ready, variable-answer, constant-answer, size-answer, sum-ended-answer, sum-answer, sum-constant-answer, read-answer, address-answer, cast-answer, malloc-answer}
 
 abbrev μ-place : Measures 5 place-kinds.ps ℕ
 μ-place κs a = a .1 .1 .0
@@ -53,19 +52,26 @@ value-below t = and 5 value-kinds.ps (falls 5 value-kinds.ps _<_ μ-value t) val
 pub +place+value-spec : {M : Type 1} → statement M
 +place+value-spec =
     close μ-place μ-value
-    (λ t. place-lts.spec (item-reads.Asked, item-reads.Learnt, variable-reads.Asked, variable-reads.Learnt, child-reads.Asked, child-reads.Learnt, reads-variable-reads.Asked, reads-variable-reads.Learnt, read-variable-reads.Asked, read-variable-reads.Learnt, pointed-reads.Asked, pointed-reads.Learnt, value-below t, value.Post) (place-at t) place.Post
+    (λ t. place-lts.spec (item-reads.Asked, item-reads.Learnt, variable-reads.Asked, variable-reads.Learnt, child-reads.Asked, child-reads.Learnt, value-below t, value.Post, pointed-reads.Asked, pointed-reads.Learnt, read-variable-reads.Asked, read-variable-reads.Learnt, place-below t, place.Post, type-of-reads.Asked, type-of-reads.Learnt, load-reads.Asked, load-reads.Learnt) (place-at t) place.Post
     (λ c κs. place-item (c .pre .1) 0 (omega arith))
     (λ c κs. place-item (c .before .before .pre .1) 1 (omega arith))
     (λ c κs. variable-small (c .before .before .before .before .pre .1) (c .before .before .before .item .ensures) (c .before .before .if1 .taken) (c .before .item2 .ensures))
     (λ c. variable-answer (c .before .before .before .before .item .ensures) (c .before .before .item2 .ensures) (c .before .before .before .if1 .taken) (c .variable .ensures .0) (c .variable .ensures .1))
     (λ c κs. place-item (c .before .before .pre .1) 1 (omega arith))
-    (λ c κs. is-node (child-ready (c .before .before .before .pre .1) (c .before .before .item .ensures) (c .before .if1 .left) (c .child .ensures) .1))
-    (λ c κs. (child-ready (c .before .before .before .before .before .before .pre .1) (c .before .before .before .before .before .item .ensures) (c .before .before .before .before .if1 .left) (c .before .before .before .child .ensures) .1, c .before .before .reads-variable .ensures (c .before .if2 .taken)))
-    (λ c κs. pointed-ready (c .before .before .before .before .before .before .before .before .pre .1) (c .before .before .before .before .before .before .before .item .ensures) (c .before .before .before .before .before .before .if1 .left) (c .before .read-variable .ensures))
-    (λ c. c .pointed .ensures _ _ _ (c .before .before .read-variable .ensures) (c .before .before .before .before .before .before .before .before .item .ensures) (c .before .before .before .before .before .before .child .ensures))
+    (λ c κs. value-item (child-ready (c .before .before .before .pre .1) (c .before .before .item .ensures) (c .before .if1 .left) (c .child .ensures) .1) 0 (omega arith))
     (λ c κs. falls-to (c .before .before .before .before .before .before .pre .0) (child-ready (c .before .before .before .before .before .before .pre .1) (c .before .before .before .before .before .item .ensures) (c .before .before .before .before .if1 .left) (c .before .before .before .child .ensures)))
     (λ c κs. pointed-ready (c .before .before .before .before .before .before .before .before .pre .1) (c .before .before .before .before .before .before .before .item .ensures) (c .before .before .before .before .before .before .if1 .left) (c .before .value .ensures))
-    (λ c. c .pointed2 .ensures _ _ _ (c .before .before .value .ensures) (c .before .before .before .before .before .before .before .before .item .ensures) (c .before .before .before .before .before .before .child .ensures)))
+    (λ c. c .pointed .ensures _ _ _ (c .before .before .value .ensures) (c .before .before .before .before .before .before .before .before .item .ensures) (c .before .before .before .before .before .before .child .ensures))
+    (λ c κs. value-item (child-ready (c .before .before .before .before .before .pre .1) (c .before .before .before .before .item .ensures) (c .before .before .before .if1 .left) (c .before .before .child .ensures) .1) 1 (omega arith))
+    (λ c κs. read-item (child-ready (c .before .before .before .before .before .before .pre .1) (c .before .before .before .before .before .item .ensures) (c .before .before .before .before .if1 .left) (c .before .before .before .child .ensures) .1) (c .before .before .item3 .ensures) (c .child2 .ensures) (c .before .if2 .left) 0 (omega arith))
+    (λ c κs. (child-ready (c .before .before .before .before .before .before .before .before .before .pre .1) (c .before .before .before .before .before .before .before .before .item .ensures) (c .before .before .before .before .before .before .before .if1 .left) (c .before .before .before .before .before .before .child .ensures) .1, reads (c .before .before .before .before .before .item3 .ensures) (c .before .before .before .before .if2 .left) (c .before .before .before .child2 .ensures) (c .before .before .item4 .ensures) (c .before .if3 .taken)))
+    (λ c κs. pointed-ready (c .before .before .before .before .before .before .before .before .before .before .before .pre .1) (c .before .before .before .before .before .before .before .before .before .before .item .ensures) (c .before .before .before .before .before .before .before .before .before .if1 .left) (c .before .read-variable .ensures))
+    (λ c. c .pointed2 .ensures _ _ _ (c .before .before .read-variable .ensures) (c .before .before .before .before .before .before .before .before .before .before .before .item .ensures) (c .before .before .before .before .before .before .before .before .before .child .ensures))
+    (λ c κs. let v = child-ready (c .before .before .before .before .before .before .before .before .before .pre .1) (c .before .before .before .before .before .before .before .before .item .ensures) (c .before .before .before .before .before .before .before .if1 .left) (c .before .before .before .before .before .before .child .ensures) in falls-to (c .before .before .before .before .before .before .before .before .before .pre .0) (falls-through (read-ready (v .1) (c .before .before .before .before .before .item3 .ensures) (c .before .before .before .child2 .ensures) (c .before .before .before .before .if2 .left)) (v .0)))
+    (λ c κs. value-type (child-ready (c .before .before .before .before .before .before .before .before .before .before .pre .1) (c .before .before .before .before .before .before .before .before .before .item .ensures) (c .before .before .before .before .before .before .before .before .if1 .left) (c .before .before .before .before .before .before .before .child .ensures) .1))
+    (λ c κs. (c .before .before .place .ensures .room, read-inside (child-ready (c .before .before .before .before .before .before .before .before .before .before .before .before .pre .1) (c .before .before .before .before .before .before .before .before .before .before .before .item .ensures) (c .before .before .before .before .before .before .before .before .before .before .if1 .left) (c .before .before .before .before .before .before .before .before .before .child .ensures) .1) (c .before .before .before .before .before .before .before .before .item3 .ensures) (c .before .before .before .before .before .before .child2 .ensures) (c .before .before .before .before .before .before .before .if2 .left) (c .before .before .place .ensures)))
+    (λ c κs. pointed-ready (c .before .before .before .before .before .before .before .before .before .before .before .before .before .before .pre .1) (c .before .before .before .before .before .before .before .before .before .before .before .before .before .item .ensures) (c .before .before .before .before .before .before .before .before .before .before .before .before .if1 .left) (read-answer (c .before .before .before .before .before .before .before .before .before .before .item3 .ensures) (c .before .before .before .before .before .before .before .before .child2 .ensures) (c .before .before .before .before .before .before .before .before .before .if2 .left) (c .before .before .before .type-of .ensures) (c .before .before .before .before .place .ensures) (c .before .load .ensures .0) (c .before .load .ensures .1)))
+    (λ c. c .pointed3 .ensures _ _ _ (read-answer (c .before .before .before .before .before .before .before .before .before .before .before .item3 .ensures) (c .before .before .before .before .before .before .before .before .before .child2 .ensures) (c .before .before .before .before .before .before .before .before .before .before .if2 .left) (c .before .before .before .before .type-of .ensures) (c .before .before .before .before .before .place .ensures) (c .before .before .load .ensures .0) (c .before .before .load .ensures .1)) (c .before .before .before .before .before .before .before .before .before .before .before .before .before .before .item .ensures) (c .before .before .before .before .before .before .before .before .before .before .before .before .child .ensures)))
     (λ t. value-lts.spec (item-reads.Asked, item-reads.Learnt, number-reads.Asked, number-reads.Learnt, child-reads.Asked, child-reads.Learnt, value-below t, value.Post, long-reads.Asked, long-reads.Learnt, sum-reads.Asked, sum-reads.Learnt, bound-reads.Asked, bound-reads.Learnt, read-variable-reads.Asked, read-variable-reads.Learnt, place-below t, place.Post, type-of-reads.Asked, type-of-reads.Learnt, load-reads.Asked, load-reads.Learnt, keeps-reads.Asked, keeps-reads.Learnt, cast-reads.Asked, cast-reads.Learnt, size-reads.Asked, size-reads.Learnt, words-reads.Asked, words-reads.Learnt, allocate-reads.Asked, allocate-reads.Learnt) (value-at t) value.Post
     (λ c κs. value-item (c .pre .1) 0 (omega arith))
     (λ c κs. value-item (c .before .before .pre .1) 1 (omega arith))
