@@ -23,7 +23,7 @@ enum mavistable_ending {
 /* How a call ended. What an ending does not tell is 0. */
 struct mavistable_answer {
     uint32_t ending;  /* one of enum mavistable_ending */
-    uint32_t number;  /* refused: the number of the refusal, 1 to 11 */
+    uint32_t number;  /* refused: the number of the refusal, 1 to 11 or 13 to 15 */
     size_t place;     /* refused: its place */
     uint32_t command; /* abort, no room: the number of the command, from 0 */
     uint32_t unused;  /* done, abort, no room: the first word of the lists that was never handed out */
@@ -33,13 +33,17 @@ struct mavistable_answer {
    The caller owes: `table` points to `length` readable words (for length 0 it is any pointer but NULL). */
 struct mavistable_verdict mavistable_check(const uint32_t *table, size_t length);
 
-/* Checks a table and the other arguments, clears the three lists, sets the variables to the inputs and runs the commands.
+/* Checks a table and the other arguments, clears the three lists, sets the variables to the inputs, hands in the registers and runs the
+   commands.
    The lists are the memory: word i has the value values[i] and the bounds [bases[i], ends[i]), none if both are 0.
    Lists of differing length, or of a length that does not fit, are refused and left as they are.
+   Registers are arrays for the routine to work on: their count (at most 16), then for each the number of a pointer variable, a length n
+   and n words. Each becomes a block of memory after the variables, and its variable starts at it, with its bounds; with n = 0 it
+   starts as 0. Without registers the list is the one word 0. What the routine leaves of a register stands in values.
    The caller owes: each pointer points to as many words as its length says (readable; those of the three lists writable too),
-   none is NULL, and no list overlaps another one or the table or the inputs. */
+   none is NULL, and no list of the three overlaps another one or the table, the inputs or the registers. */
 struct mavistable_answer mavistable_run(const uint32_t *table, size_t table_length, const uint32_t *inputs, size_t input_count,
-                                        uint32_t *values, size_t values_length, uint32_t *bases, size_t bases_length,
-                                        uint32_t *ends, size_t ends_length);
+                                        const uint32_t *registers, size_t registers_length, uint32_t *values, size_t values_length,
+                                        uint32_t *bases, size_t bases_length, uint32_t *ends, size_t ends_length);
 
 #endif

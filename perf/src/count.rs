@@ -11,11 +11,12 @@ pub struct Plan {
     pub more: usize,
 }
 
-/// The C library clears long lists by one repeated instruction, which
-/// callgrind counts once a byte. This makes it use a loop of vector stores.
+/// The C library clears long lists, and copies them, by one repeated
+/// instruction, which callgrind counts once a byte. This makes it use loops of
+/// vector loads and stores.
 const NO_REPEATED_STORES: [&str; 2] = [
     "GLIBC_TUNABLES",
-    "glibc.cpu.x86_rep_stosb_threshold=1073741824",
+    "glibc.cpu.x86_rep_stosb_threshold=1073741824:glibc.cpu.x86_rep_movsb_threshold=1073741824",
 ];
 
 /// Whether there is a valgrind to count with.

@@ -5,10 +5,12 @@
 
 use second::machine;
 
-/// What the check alone answers.
+/// What the check alone answers. `refused` is 0 for a table that passes, and so
+/// are number and place then.
 #[repr(C)]
 #[derive(Clone, Copy, Debug, Default, PartialEq, Eq)]
 pub struct Verdict {
+    pub refused: u32,
     pub number: u32,
     pub place: usize,
 }
@@ -37,6 +39,8 @@ extern "C" {
         table_length: usize,
         inputs: *const u32,
         input_count: usize,
+        registers: *const u32,
+        registers_length: usize,
         values: *mut u32,
         values_length: usize,
         bases: *mut u32,
@@ -54,6 +58,7 @@ pub fn check(table: &[u32]) -> Verdict {
 pub fn run(
     table: &[u32],
     inputs: &[u32],
+    registers: &[u32],
     values: &mut [u32],
     bases: &mut [u32],
     ends: &mut [u32],
@@ -65,6 +70,8 @@ pub fn run(
             table.len(),
             inputs.as_ptr(),
             inputs.len(),
+            registers.as_ptr(),
+            registers.len(),
             values.as_mut_ptr(),
             values.len(),
             bases.as_mut_ptr(),
@@ -81,9 +88,11 @@ impl From<machine::Verdict> for Verdict {
     fn from(verdict: machine::Verdict) -> Verdict {
         match verdict {
             machine::Verdict::Pass => Verdict::default(),
-            machine::Verdict::Refused(machine::Refusal { number, place }) => {
-                Verdict { number, place }
-            }
+            machine::Verdict::Refused(machine::Refusal { number, place }) => Verdict {
+                refused: 1,
+                number,
+                place,
+            },
         }
     }
 }
@@ -121,7 +130,7 @@ impl From<machine::Answer> for Answer {
 
 impl Verdict {
     pub fn passes(&self) -> bool {
-        self.number == 0
+        self.refused == 0
     }
 }
 

@@ -149,7 +149,7 @@ pub fn summary(lines: &[Line]) -> String {
         })
     });
     format!(
-        "Ratio, geometric mean over the rows before 'memory' that have nodes:\n{}\
+        "Ratio, geometric mean over the rows before 'registers' that have nodes:\n{}\
          Cost of a node more, from the first to the last row of 'growth', library and second:\n{}",
         ratios.concat(),
         costs.concat()

@@ -19,6 +19,8 @@ pub struct Routine {
     pub pointers: Vec<u32>,
     /// The type and the input of each variable.
     pub variables: Vec<[u32; 2]>,
+    /// The variable that each register names, and its words.
+    pub registers: Vec<(u32, Vec<u32>)>,
     /// Kind, a, b.
     pub nodes: Vec<[u32; 3]>,
     /// A place and a value each.
@@ -87,6 +89,14 @@ impl Routine {
         self.follow(pointer)
     }
 
+    /// The word so many words on from where a variable points to, in 5 nodes.
+    pub fn word_of(&mut self, pointer: u32, words: u32) -> u32 {
+        let pointer = self.get(pointer);
+        let words = self.constant(words);
+        let moved = self.sum(pointer, words);
+        self.follow(moved)
+    }
+
     /// A field of the record that a variable points to.
     pub fn field_of(&mut self, pointer: u32, field: u32) -> u32 {
         let pointer = self.get(pointer);
@@ -119,6 +129,16 @@ impl Routine {
 impl Routine {
     pub fn inputs(&self) -> Vec<u32> {
         self.variables.iter().map(|&[_, input]| input).collect()
+    }
+
+    /// The list of registers: `0` where there are none.
+    pub fn register_list(&self) -> Vec<u32> {
+        let mut list = vec![self.registers.len() as u32];
+        for (variable, words) in &self.registers {
+            list.extend([*variable, words.len() as u32]);
+            list.extend(words);
+        }
+        list
     }
 
     /// The six sections, each after its count.

@@ -3,10 +3,11 @@
 use crate::routine::Routine;
 use crate::workload;
 
-/// One call's table and inputs.
+/// One call's table, inputs and list of registers.
 pub struct Case {
     pub table: Vec<u32>,
     pub inputs: Vec<u32>,
+    pub registers: Vec<u32>,
 }
 
 pub struct Row {
@@ -57,6 +58,7 @@ pub fn named(name: &str) -> Option<Row> {
 
 fn plans() -> Vec<Plan> {
     let mut plans = shapes();
+    plans.extend(registers());
     plans.extend(memory());
     plans.extend(growth());
     plans
@@ -87,6 +89,20 @@ fn shapes() -> Vec<Plan> {
         plan("allocations", 256, || vec![allocations()]),
         plan("mixed, 500 tables", 128, || mixed(500)),
     ]
+}
+
+/// Few and many registers, and a long one: as many nodes over each.
+fn registers() -> Vec<Plan> {
+    let plan = |(count, length, memory): (u32, u32, usize)| Plan {
+        group: "registers",
+        name: format!("registers {count} x {length}"),
+        memory,
+        quick: count == 16,
+        routines: Box::new(move || vec![workload::registers(count, length)]),
+    };
+    [(1, 16, 32), (16, 16, 512), (1, 4_000, 4_096)]
+        .map(plan)
+        .into()
 }
 
 /// One routine of 64 nodes in ever longer lists.
@@ -134,6 +150,7 @@ impl Case {
         Case {
             table: routine.table(),
             inputs: routine.inputs(),
+            registers: routine.register_list(),
         }
     }
 }

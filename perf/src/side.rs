@@ -126,6 +126,7 @@ fn library_call(case: &Case, lists: &mut Lists) -> library::Answer {
     library::run(
         &case.table,
         &case.inputs,
+        &case.registers,
         &mut lists.values,
         &mut lists.bases,
         &mut lists.ends,
@@ -145,6 +146,7 @@ fn second_call(case: &Case, lists: &mut Lists) -> machine::Answer {
     machine::run(
         &case.table,
         &case.inputs,
+        &case.registers,
         &mut lists.values,
         &mut lists.bases,
         &mut lists.ends,

@@ -9,10 +9,7 @@ fn group(r: &mut Routine, p: [u32; 2], q: u32, x: u32, record: u32) {
     let [p, typ] = p;
     r.new_record(p, typ, record);
     take_field(r, q, p, 1);
-    let pointer = r.get(q);
-    let one = r.constant(1);
-    let moved = r.sum(pointer, one);
-    let place = r.follow(moved);
+    let place = r.word_of(q, 1);
     let value = r.get(x);
     r.assign(place, value);
 }
@@ -235,6 +232,32 @@ pub fn allocations() -> Routine {
         let place = r.variable(0);
         let words = r.constant(1);
         let value = r.obtain(words);
+        r.assign(place, value);
+    }
+    r
+}
+
+/// So many registers of so many words, at least 16 each, and over them
+/// `x = x + *(p + n); *(p + n) = x`, 16 times with another word each time.
+pub fn registers(count: u32, length: u32) -> Routine {
+    let x = count;
+    let pointers = (0..count).map(|_| [entry(0), 0]);
+    let mut r = Routine {
+        pointers: vec![INT],
+        variables: pointers.chain([[INT, 9]]).collect(),
+        registers: (0..count).map(|p| (p, (0..length).collect())).collect(),
+        ..Routine::default()
+    };
+    for i in 0..16 {
+        let (p, n) = (i % count, i * (length / 16));
+        let place = r.variable(x);
+        let sum = r.get(x);
+        let from = r.word_of(p, n);
+        let from = r.read(from);
+        let value = r.sum(sum, from);
+        r.assign(place, value);
+        let place = r.word_of(p, n);
+        let value = r.get(x);
         r.assign(place, value);
     }
     r

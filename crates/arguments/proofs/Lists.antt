@@ -1,4 +1,4 @@
--- Lists that a loop fills: with 0, or from index 1 on with another list.
+-- Lists that a loop fills: with 0, or from some index on with another list.
 use Prim.Native.Nat.{ℕ, suc, _+_, _≤_, _<_}
 use mathlib.Core.Path.{_≡_, refl, sym, ap, _∙_}
 use mathlib.Core.List.{[], _∷_, _++_}
@@ -38,24 +38,24 @@ sets-more : (l : Words) (i : ℕ) (xs : Words) (x : ℕ) → sets l i (xs ++ (x 
 sets-more l i [] x = rw (add-zero i)
 sets-more l i (y ∷ ys) x = sets-more (set l i y) (suc i) ys x ∙ ap (λ n. set (sets (set l i y) (suc i) ys) n x) (suc-add i (length ys) ∙ sym (add-suc i (length ys)))
 
--- The first i of xs are stored from index 1 on.
-pub record Copied (l₀ xs l : Words) (i : ℕ) : Type 0 where
-  pub stores : l ≡ sets l₀ 1 (take i xs)
+-- The first i of xs are stored from index a on.
+pub record Copied (l₀ : Words) (a : ℕ) (xs l : Words) (i : ℕ) : Type 0 where
+  pub stores : l ≡ sets l₀ a (take i xs)
 
-pub copied-none : (l xs : Words) → Copied l xs l 0
-copied-none l xs = record { stores = refl }
+pub copied-none : (l : Words) (a : ℕ) (xs : Words) → Copied l a xs l 0
+copied-none l a xs = record { stores = refl }
 
-pub copied-length : {l₀ xs l : Words} {i : ℕ} → Copied l₀ xs l i → length l ≡ length l₀
-copied-length {l₀} {xs} {i = i} h = ap length (h .stores) ∙ length-sets l₀ 1 (take i xs)
+pub copied-length : {l₀ : Words} {a : ℕ} {xs l : Words} {i : ℕ} → Copied l₀ a xs l i → length l ≡ length l₀
+copied-length {l₀} {a} {xs} {i = i} h = ap length (h .stores) ∙ length-sets l₀ a (take i xs)
 
-pub copied-more : {l₀ xs l : Words} {i : ℕ} → Copied l₀ xs l i → i < length xs → Copied l₀ xs (set l (i + 1) (word xs i)) (i + 1)
-copied-more {l₀} {xs} {l} {i} h inside =
-    let e : 1 + length (take i xs) ≡ i + 1 = omega (arith, length-take-le i xs (omega arith)) in
+pub copied-more : {l₀ : Words} {a : ℕ} {xs l : Words} {i : ℕ} → Copied l₀ a xs l i → i < length xs → Copied l₀ a xs (set l (a + i) (word xs i)) (i + 1)
+copied-more {l₀} {a} {xs} {l} {i} h inside =
+    let e : a + length (take i xs) ≡ a + i = omega (arith, length-take-le i xs (omega arith)) in
     record {
       stores =
-          ap (λ r. set r (i + 1) (word xs i)) (h .stores)
-          ∙ sym (ap (λ ys. sets l₀ 1 ys) (ap (λ n. take n xs) (add-one i) ∙ take-suc xs i 0 inside) ∙ sets-more l₀ 1 (take i xs) (word xs i) ∙ ap (λ n. set (sets l₀ 1 (take i xs)) n (word xs i)) e);
+          ap (λ r. set r (a + i) (word xs i)) (h .stores)
+          ∙ sym (ap (λ ys. sets l₀ a ys) (ap (λ n. take n xs) (add-one i) ∙ take-suc xs i 0 inside) ∙ sets-more l₀ a (take i xs) (word xs i) ∙ ap (λ n. set (sets l₀ a (take i xs)) n (word xs i)) e);
     }
 
-pub copied-all : {l₀ xs l : Words} {i : ℕ} → Copied l₀ xs l i → length xs ≤ i → l ≡ sets l₀ 1 xs
-copied-all {l₀} {xs} {i = i} h all = h .stores ∙ ap (λ ys. sets l₀ 1 ys) (take-all i xs all)
+pub copied-all : {l₀ : Words} {a : ℕ} {xs l : Words} {i : ℕ} → Copied l₀ a xs l i → length xs ≤ i → l ≡ sets l₀ a xs
+copied-all {l₀} {a} {xs} {i = i} h all = h .stores ∙ ap (λ ys. sets l₀ a ys) (take-all i xs all)

@@ -1,7 +1,7 @@
 // What a run is begun with: the check of the lists and the inputs of a call, and the memory at its start.
 ghost use mathlib.Core.Path.{_≡_};
 ghost use mathlib.Core.Bool.{_&&_, _||_};
-ghost use Prim.Native.Nat.{_<_};
+ghost use Prim.Native.Nat.{_+_, _≤_};
 ghost use lib.Dec.{leb, ltb, eqb};
 ghost use lib.ListN.{length, replicate};
 ghost use lib.Seq.{sets};
@@ -21,14 +21,14 @@ pub fn clear(list: &mut [u32])
     }
 }
 
-// Sets the variables' values: word 1 + i to input i.
-pub fn set_inputs(values: &mut [u32], inputs: &[u32])
-    requires { ⌜ length (now inputs) < length (now values) ⌝ }
-    ensures { λ r. ⌜ now (values .exit) ≡ sets (now (values .entry)) 1 (now (inputs .entry)) ⌝ }
+// Stores words one after the other, the first at place `at` of a list.
+pub fn store_all(list: &mut [u32], at: usize, words: &[u32])
+    requires { ⌜ at + length (now words) ≤ length (now list) ⌝ }
+    ensures { λ r. ⌜ now (list .exit) ≡ sets (now (list .entry)) at (now (words .entry)) ⌝ }
 {
-    let n = inputs.len();
+    let n = words.len();
     for i in 0..n {
-        values[i + 1] = inputs[i];
+        list[at + i] = words[i];
     }
 }
 

@@ -47,14 +47,15 @@ pub extern "C" fn mavistable_check(table: &[u32]) -> MavistableVerdict
 pub extern "C" fn mavistable_run(
     table: &[u32],
     inputs: &[u32],
+    registers: &[u32],
     values: &mut [u32],
     bases: &mut [u32],
     ends: &mut [u32],
 ) -> MavistableAnswer
-    ensures called { λ r. ⌜ Is (call (now (table .entry)) (now (inputs .entry)) (now (values .entry)) (now (bases .entry)) (now (ends .entry))) r (now (values .exit)) (now (bases .exit)) (now (ends .exit)) ⌝ }
-    ensures safe { λ r. ⌜ Spatially-safe (now (table .entry)) (now (inputs .entry)) (now (values .entry)) (now (bases .entry)) (now (ends .entry)) ⌝ }
+    ensures called { λ r. ⌜ Is (call (now (table .entry)) (now (inputs .entry)) (now (registers .entry)) (now (values .entry)) (now (bases .entry)) (now (ends .entry))) r (now (values .exit)) (now (bases .exit)) (now (ends .exit)) ⌝ }
+    ensures safe { λ r. ⌜ Spatially-safe (now (table .entry)) (now (inputs .entry)) (now (registers .entry)) (now (values .entry)) (now (bases .entry)) (now (ends .entry)) ⌝ }
 {
-    match machine::run(table, inputs, values, bases, ends) {
+    match machine::run(table, inputs, registers, values, bases, ends) {
         Answer::Refused(number, place) => MavistableAnswer {
             ending: 0,
             number,

@@ -1,8 +1,7 @@
 // The commands of a table, one after the other: the place, the value, the store.
-ghost use mathlib.Core.List.{[], map};
+ghost use mathlib.Core.List.{map};
 ghost use Prim.Native.Nat.{_<_};
 ghost use lib.ListN.{length};
-ghost use Rattle.steps.specs.Answers.{state-of};
 ghost use Rattle.commands.specs.Command.{lists, Command-ready, Evaluated, Stored, Command-answered};
 ghost use Rattle.commands.specs.Execution.{Executable, Executed};
 use layout::index;
@@ -98,7 +97,7 @@ pub fn execute(
     ends: &mut [u32],
 ) -> Ended
     requires { ⌜ Executable (now t) (map (λ x. now x) (now l)) at total first (now values) (now bases) (now ends) ⌝ }
-    ensures { λ r. ⌜ Executed (now (t .entry)) (state-of (lists (now (values .entry)) (now (bases .entry)) (now (ends .entry))) first []) r (now (values .exit)) (now (bases .exit)) (now (ends .exit)) ⌝ }
+    ensures { λ r. ⌜ Executed (now (t .entry)) (now (values .entry)) (now (bases .entry)) (now (ends .entry)) first r (now (values .exit)) (now (bases .exit)) (now (ends .exit)) ⌝ }
 {
     // Base and end of the value last worked out, and U.
     let mut s = [0, 0, first];

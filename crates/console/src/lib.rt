@@ -156,7 +156,7 @@ fn put_answer(
     put_memory(out, at, unused, values, bases, ends)
 }
 
-// Runs the table from `from` on, with the inputs before it, in the first `memory` words of the lists.
+// Runs the table from `from` on, with the inputs before it and no registers, in the first `memory` words of the lists.
 fn run_and_print(
     numbers: &[u32],
     memory: usize,
@@ -170,9 +170,11 @@ fn run_and_print(
     requires { ⌜ (2 ≤ from) × (from ≤ length (now numbers)) ⌝ }
     requires { ⌜ (memory ≤ length (now values)) × (memory ≤ length (now bases)) × (memory ≤ length (now ends)) ⌝ }
 {
+    let no_registers = [0u32];
     let a = machine::run(
         &numbers[from..],
         &numbers[2..from],
+        &no_registers,
         &mut values[0..memory],
         &mut bases[0..memory],
         &mut ends[0..memory],

@@ -1,7 +1,7 @@
 -- Laws of verdicts, of loops over them and of the entries of a section.
 use Prim.Native.Nat.{ℕ, zero, suc, _+_, _*_, _≤_, _<_}
 use mathlib.Core.Bool.{Bool, true, false}
-use mathlib.Core.Path.{_≡_, refl, sym, _∙_}
+use mathlib.Core.Path.{_≡_, refl, sym, ap, _∙_}
 use native.Mathlib.Omega.{arith}
 use native.Mathlib.Nat.{not-suc-le-zero}
 use native.Mathlib.Numerals.{add-one}
@@ -11,8 +11,9 @@ use lib.Seq.{getD-set-same, getD-set-other}
 use Rattle.semantics.specs.Words.{Words, word, sum-below}
 use Rattle.semantics.specs.Table.{entry-words, item-place, item}
 use Rattle.semantics.specs.Check.{Verdict, passes, refused, _or-else_, require, each}
-use Rattle.layout.specs.Layout.{Stands}
+use Rattle.layout.specs.Layout.{verdict-of, Stands}
 use Rattle.layout.specs.Types.{Tabulated, Checked}
+use Rattle.layout.specs.declared.Verdict as answer
 use Rattle.layout.specs.declared.Verdict.the-variants.{Refused}
 use Rattle.layout.specs.declared.Section.{Section}
 
@@ -31,6 +32,10 @@ or-else-pass u v e = rw e refl
 pub or-else-refuse : (u v : Verdict) {n p : ℕ} → u ≡ refused n p → u or-else v ≡ refused n p
 unfolding _or-else_
 or-else-refuse u v e = rw e refl
+
+-- What an answer that a `match` has told apart says of the verdict.
+pub told-as : {r r′ : answer.Verdict} {v : Verdict} → verdict-of r ≡ v → r ≡ r′ → verdict-of r′ ≡ v
+told-as e q = ap verdict-of (sym q) ∙ e
 
 module _ (f : ℕ → Verdict) (i : ℕ) (before : each i f ≡ passes) where
   -- A turn that passes.

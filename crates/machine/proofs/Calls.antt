@@ -1,31 +1,33 @@
 -- A whole call of a table that passed the check, from what its parts did.
-use Prim.Native.Nat.{ℕ, _+_, _*_, _-_, _<_}
+use Prim.Native.Nat.{ℕ, _+_, _*_, _-_, _≤_, _<_}
 use mathlib.Core.Path.{_≡_, refl, sym, ap, _∙_}
 use mathlib.Core.List.{[], _∷_}
 use native.Mathlib.Omega.{arith}
 use lib.ListN.{length, take, drop, replicate, length-replicate, length-drop}
 use lib.Seq.{sets, take-length, length-sets, getD-drop}
 use Rattle.semantics.specs.Words.{Words}
-use Rattle.semantics.specs.Table.{variables, commands, count}
-use Rattle.semantics.specs.Check.{Verdict, passes, refused, check, arguments-fault, call-fault}
-use Rattle.semantics.specs.Run.{begin, run, call}
+use Rattle.semantics.specs.Table.{variables, count}
+use Rattle.semantics.specs.Registers.{register-count}
+use Rattle.semantics.specs.Check.{Verdict, passes, refused, _or-else_, check, arguments-fault, registers-fault, call-fault}
+use Rattle.semantics.specs.Rules.{State}
+use Rattle.semantics.specs.Run.{cleared, begin, run, call}
 use Rattle.semantics.proofs.Passed.{Passed, passed, section-ok, section-end}
-use Rattle.semantics.proofs.Safety.{Begun, begun, equally-long, begin-inv}
+use Rattle.semantics.proofs.Safety.{Begun, begun, begin-inv}
 use Rattle.evaluator.specs.Lists.{Lists}
 use Rattle.steps.specs.Answers.{state-of}
 use Rattle.layout.specs.Layout.{verdict-of, section-of, layout, layout-by, Stands}
-use Rattle.layout.specs.declared.Verdict as told
-use Rattle.layout.specs.declared.Verdict.the-variants as the
-use Rattle.layout.proofs.Laws.{or-else-pass, or-else-refuse, item-at}
-use Rattle.nodes.specs.Nodes.{note}
 use Rattle.layout.specs.declared.Table.{Table}
 use Rattle.layout.specs.declared.Parsed.the-variants as parsed
-use Rattle.semantics.specs.Rules.{State}
+use Rattle.layout.specs.declared.Verdict as told
+use Rattle.layout.specs.declared.Verdict.the-variants as the
+use Rattle.layout.proofs.Laws.{or-else-pass, or-else-refuse, told-as, item-at}
+use Rattle.nodes.specs.Nodes.{note}
+use Rattle.registers.specs.Blocks.{memory, Holds, Registers-set, All-fit}
 use Rattle.commands.specs.Command.{lists}
 use Rattle.commands.specs.Execution as commands
-use Rattle.commands.specs.Execution.{ended-of}
+use Rattle.commands.specs.Execution.{ended-of, Starts}
 use Rattle.commands.specs.declared.Ended.{Ended}
-use Rattle.machine.specs.Run.{answer-of, Is, Program, Startable, Executed}
+use Rattle.machine.specs.Run.{answer-of, Is, Program, Can-begin, Has-begun, Startable, Executed}
 use Rattle.machine.specs.declared.Answer.{Answer}
 use Rattle.machine.specs.declared.Answer.the-variants.{Refused}
 
@@ -40,20 +42,80 @@ layout-refused t passes e = absurd (let z : _≡_ {A = ℕ} 0 1 = cc in omega ar
 layout-refused t (refused m q) e = cc
 
 -- A table that is refused is a call that is refused.
-pub table-refused : (t inputs vs bs es : Words) {n p : ℕ} → refused n p ≡ check t → Is (call t inputs vs bs es) (Refused n p) vs bs es
+pub table-refused : (t inputs registers vs bs es : Words) {n p : ℕ} → refused n p ≡ check t → Is (call t inputs registers vs bs es) (Refused n p) vs bs es
 unfolding call call-fault
-table-refused t inputs vs bs es e =
-    rw (or-else-refuse (check t) (arguments-fault t inputs (length vs) (length bs) (length es)) (sym e)) (record { answer = refl; values = refl; bases = refl; ends = refl })
+table-refused t inputs registers vs bs es e =
+    rw (or-else-refuse (check t) (arguments-fault t inputs (length vs) (length bs) (length es) or-else registers-fault t registers (length vs)) (sym e))
+    (record { answer = refl; values = refl; bases = refl; ends = refl })
+
+-- ---- the check of the other arguments
+
+-- The arguments' refusals: the lists' and inputs', then the registers'.
+abbrev pub rest-fault : Words → Words → Words → ℕ → ℕ → ℕ → Verdict
+rest-fault t inputs registers values bases ends = arguments-fault t inputs values bases ends or-else registers-fault t registers values
+
+module _ (t inputs registers : Words) (values bases ends : ℕ) where
+  pub arguments-refused : {n p : ℕ} → refused n p ≡ arguments-fault t inputs values bases ends → refused n p ≡ rest-fault t inputs registers values bases ends
+  arguments-refused e = sym (or-else-refuse _ _ (sym e))
+
+  pub registers-judged : passes ≡ arguments-fault t inputs values bases ends → registers-fault t registers values ≡ rest-fault t inputs registers values bases ends
+  registers-judged e = sym (or-else-pass _ _ (sym e))
 
 pub told-refused : {r : told.Verdict} {v : Verdict} {n p : ℕ} → verdict-of r ≡ v → r ≡ the.Refused n p → refused n p ≡ v
-told-refused e q = ap verdict-of (sym q) ∙ e
+told-refused e q = told-as e q
 
--- So is one with arguments that are refused.
-pub arguments-refused : (t inputs vs bs es : Words) {n p : ℕ} → check t ≡ passes → refused n p ≡ arguments-fault t inputs (length vs) (length bs) (length es)
-    → Is (call t inputs vs bs es) (Refused n p) vs bs es
+-- A call with arguments that are refused is refused.
+pub call-refused : (t inputs registers vs bs es : Words) {n p : ℕ} → check t ≡ passes → refused n p ≡ rest-fault t inputs registers (length vs) (length bs) (length es)
+    → Is (call t inputs registers vs bs es) (Refused n p) vs bs es
 unfolding call call-fault
-arguments-refused t inputs vs bs es ok e =
-    rw (or-else-pass (check t) (arguments-fault t inputs (length vs) (length bs) (length es)) ok ∙ sym e) (record { answer = refl; values = refl; bases = refl; ends = refl })
+call-refused t inputs registers vs bs es ok e =
+    rw (or-else-pass (check t) (rest-fault t inputs registers (length vs) (length bs) (length es)) ok ∙ sym e) (record { answer = refl; values = refl; bases = refl; ends = refl })
+
+-- ---- the memory at the start
+
+-- Lists and a first unused word of a state are all of it but its log.
+holds-state : {s : State} {vs bs es : Words} {u : ℕ} → Holds s vs bs es u → s ≡ state-of (lists vs bs es) u (s .log)
+holds-state h = rw (h .values, h .bases, h .ends, h .unused)
+
+-- There are at most 64 variables.
+pub few-variables : {vars : ℕ} {inputs registers vs bs es : Words} → Can-begin vars inputs registers vs bs es → vars ≤ 64
+few-variables x = let k = section-ok (x .table) 3 (x .begun .table .types .sections 3 (omega arith)) in omega (arith, k .limited, x .total)
+
+-- A list that was cleared is as long as it was.
+cleared-length : (l : Words) {l′ : Words} → l′ ≡ replicate (length l) 0 → length l′ ≡ length l
+cleared-length l e = ap length e ∙ length-replicate (length l) 0
+
+module _ {vars : ℕ} {inputs registers vs bs es v₀ : Words} (x : Can-begin vars inputs registers vs bs es) (hv₀ : v₀ ≡ replicate (length vs) 0) where
+  -- The inputs have room, after word 0.
+  pub inputs-fit : 1 + length inputs ≤ length v₀
+  inputs-fit = omega (arith, cleared-length vs hv₀, x .begun .lists .room, x .begun .lists .inputs-length)
+
+  module _ {v₁ b₁ e₁ : Words} (hb : b₁ ≡ replicate (length bs) 0) (he : e₁ ≡ replicate (length es) 0) (hv₁ : v₁ ≡ sets v₀ 1 inputs) {u : ℕ} (hu : u ≡ vars + 1) where
+    values-length : length v₁ ≡ length vs
+    values-length = ap length hv₁ ∙ length-sets v₀ 1 inputs ∙ cleared-length vs hv₀
+
+    pub registers-fit : All-fit registers u v₁ b₁ e₁
+    registers-fit =
+        let b = x .begun in
+        record {
+          table = x .table;
+          list = rw values-length (b .blocks);
+          first = omega (arith, x .total);
+          room = omega (arith, x .total, values-length, b .lists .room);
+          most = omega (arith, values-length, b .lists .most);
+          bases-length = omega (arith, cleared-length bs hb, values-length, b .lists .same-bases);
+          ends-length = omega (arith, cleared-length es he, values-length, b .lists .same-ends);
+        }
+
+    cleared-memory : (t : Words) → vars ≡ count t variables → cleared t inputs (length vs) ≡ memory v₁ b₁ e₁ u
+    unfolding cleared
+    cleared-memory t total =
+        let e : u ≡ 1 + count t variables = omega arith in
+        rw (hv₁, hv₀, hb, he, ← (x .begun .lists .same-bases), ← (x .begun .lists .same-ends), e)
+
+    pub has-begun : {u′ : ℕ} {vs′ bs′ es′ : Words} → Registers-set registers (register-count registers) v₁ b₁ e₁ u vs′ bs′ es′ u′ → Has-begun vars inputs registers vs vs′ bs′ es′ u′
+    unfolding begin
+    has-begun h = record { begins = λ t total. rw (cleared-memory t total) (h .holds) }
 
 -- ---- a table that passed
 
@@ -117,37 +179,47 @@ module _ {t first before notes : Words} {l : Table} (pr : Program t first before
       → Lists t (rest nodes-at t ∷ notes ∷ rest pointers-at t ∷ rest fields-at t ∷ first ∷ before ∷ [])
   lists-are {nodes-at} {pointers-at} {fields-at} hf hb hn en ep ef = rw (rest-drop nodes-at t, rest-drop pointers-at t, rest-drop fields-at t) (lists-drop hf hb hn en ep ef)
 
-  module _ (inputs vs bs es : Words) where
-    same-fault : call-fault t inputs (length vs) (length bs) (length es) ≡ arguments-fault t inputs (length vs) (length bs) (length es)
+  module _ (inputs registers vs bs es : Words) (e : passes ≡ rest-fault t inputs registers (length vs) (length bs) (length es)) where
+    not-refused : call-fault t inputs registers (length vs) (length bs) (length es) ≡ passes
     unfolding call-fault
-    same-fault = or-else-pass (check t) (arguments-fault t inputs (length vs) (length bs) (length es)) (pr .passed)
+    not-refused = or-else-pass (check t) (rest-fault t inputs registers (length vs) (length bs) (length es)) (pr .passed) ∙ sym e
 
-    module _ (e : passes ≡ arguments-fault t inputs (length vs) (length bs) (length es)) where
-      pub call-begun : Begun t inputs (length vs)
-      call-begun = begun t inputs (length vs) (length bs) (length es) (same-fault ∙ sym e)
+    pub call-begun : Begun t inputs registers (length vs) (length bs) (length es)
+    call-begun = begun t inputs registers (length vs) (length bs) (length es) not-refused
 
-      -- The lists that a run begins with.
-      module _ {v₀ v₁ b₁ e₁ : Words} (hv₀ : v₀ ≡ replicate (length vs) 0) (hv₁ : v₁ ≡ sets v₀ 1 inputs) (hb : b₁ ≡ replicate (length bs) 0)
-          (he : e₁ ≡ replicate (length es) 0) where
-        begins : begin t inputs (length vs) ≡ state-of (lists v₁ b₁ e₁) (count t variables + 1) []
-        unfolding begin
-        begins =
-            let same = equally-long t inputs (length vs) (length bs) (length es) (same-fault ∙ sym e) in
-            let hu : count t variables + 1 ≡ 1 + count t variables = omega arith in
-            rw (hv₁, hv₀, hb, he, ← (same .0), ← (same .1), hu)
+    pub can-begin : {vars : ℕ} → vars ≡ l .variables .count → Can-begin vars inputs registers vs bs es
+    can-begin h = record { table = t; total = h ∙ variables-stand .total; begun = call-begun }
 
-        first-length : length v₁ ≡ length vs
-        first-length = ap length hv₁ ∙ length-sets v₀ 1 inputs ∙ ap length hv₀ ∙ length-replicate (length vs) 0
+    -- From the lists that a run begins with.
+    module _ {vars u : ℕ} {v₁ b₁ e₁ : Words} (hv : vars ≡ l .variables .count) (h : Has-begun vars inputs registers vs v₁ b₁ e₁ u) where
+      state : State
+      state = begin t inputs registers (length vs)
 
-        pub call-startable : Startable t l first before notes v₁ b₁ e₁
-        call-startable =
-            record { program = pr; layout-is = el; inv = rw (first-length, ← begins) (begin-inv t inputs (length vs) call-begun); most = omega (arith, first-length, call-begun .most) }
+      begins : Holds state v₁ b₁ e₁ u
+      unfolding state
+      begins = h .begins t (hv ∙ variables-stand .total)
 
-        pub call-executed : {r : Answer} {vs′ bs′ es′ : Words} → Executed t (state-of (lists v₁ b₁ e₁) (count t variables + 1) []) r vs′ bs′ es′ → Is (call t inputs vs bs es) r vs′ bs′ es′
-        unfolding call run
-        call-executed h = rw (same-fault ∙ sym e, begins) (h .meets)
+      same-state : state ≡ state-of (lists v₁ b₁ e₁) u (state .log)
+      same-state = holds-state begins
+
+      first-length : length v₁ ≡ length vs
+      unfolding state
+      first-length = ap length (begins .values) ∙ begin-inv call-begun .values-length
+
+      starts : Starts t v₁ b₁ e₁ u (state .log)
+      unfolding state
+      starts = rw (first-length, ← same-state) (begin-inv call-begun)
+
+      pub call-startable : Startable t l first before notes u v₁ b₁ e₁
+      call-startable =
+          record { program = pr; layout-is = el; log = state .log; inv = starts; most = omega (arith, first-length, call-begun .lists .most) }
+
+      pub call-executed : {r : Answer} {vs′ bs′ es′ : Words} → Executed t v₁ b₁ e₁ u r vs′ bs′ es′ → Is (call t inputs registers vs bs es) r vs′ bs′ es′
+      unfolding call run state
+      call-executed x = rw (not-refused, same-state) (x .meets (state .log) starts)
 
 -- A run's ending, told as an answer.
-pub told-executed : {t : Words} {s : State} {e : Ended} {r : Answer} {vs bs es : Words} → commands.Executed t s e vs bs es → answer-of r ≡ ended-of e → Executed t s r vs bs es
+pub told-executed : {t vs bs es : Words} {u : ℕ} {e : Ended} {r : Answer} {vs′ bs′ es′ : Words} → commands.Executed t vs bs es u e vs′ bs′ es′ → answer-of r ≡ ended-of e
+    → Executed t vs bs es u r vs′ bs′ es′
 told-executed h same =
-    let m = h .meets in record { meets = record { answer = same ∙ m .answer; values = m .values; bases = m .bases; ends = m .ends } }
+    record { meets = λ log inv. let m = h .meets log inv in record { answer = same ∙ m .answer; values = m .values; bases = m .bases; ends = m .ends } }

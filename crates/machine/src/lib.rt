@@ -1,25 +1,23 @@
 // Runs a table: the commands in order over the three lists of the memory.
 ghost use mathlib.Core.Path.{_≡_};
-ghost use Prim.Native.Nat.{_+_, _<_, _^_};
-ghost use mathlib.Core.List.{[]};
-ghost use lib.ListN.{length};
-ghost use Rattle.steps.specs.Answers.{state-of};
-ghost use Rattle.semantics.specs.Table.{count};
+ghost use Prim.Native.Nat.{_<_, _^_};
 ghost use Rattle.semantics.specs.Safety.{Spatially-safe};
-ghost use Rattle.semantics.specs.Check.{check};
+ghost use Rattle.semantics.specs.Check.{_or-else_, check, arguments-fault, registers-fault};
 ghost use Rattle.semantics.specs.Run.{call};
-ghost use Rattle.layout.specs.Layout.{verdict-of};
+ghost use Rattle.layout.specs.Layout.{verdict-of, Stands};
 ghost use Rattle.layout.specs.Layout as layout-specs;
-ghost use Rattle.commands.specs.Command.{lists};
 ghost use Rattle.commands.specs.Execution.{ended-of};
-ghost use Rattle.machine.specs.Run.{answer-of, Is, Program, Startable, Executed};
+ghost use Rattle.machine.specs.Run.{answer-of, Is, Program, Can-begin, Has-begun, Startable, Executed};
 use arguments::check_arguments;
 use arguments::clear;
-use arguments::set_inputs;
+use arguments::store_all;
 use commands::Ended;
 use layout::Parsed;
+use layout::Section;
 use layout::Table;
 use layout::Verdict;
+use registers::check_registers;
+use registers::set_registers;
 
 fn narrow(x: usize) -> u32
     requires { ⌜ x < 2 ^ 32 ⌝ }
@@ -47,6 +45,44 @@ fn told(e: Ended) -> Answer
     }
 }
 
+// 10 and 11 for the lists and the inputs of a call, then 13 to 15 for its registers.
+fn check_call(
+    t: &[u32],
+    variables: Section,
+    inputs: &[u32],
+    registers: &[u32],
+    values: usize,
+    bases: usize,
+    ends: usize,
+) -> Verdict
+    requires { ⌜ Stands (now t) 3 variables ⌝ }
+    ensures { λ r. ⌜ verdict-of r ≡ arguments-fault (now (t .entry)) (now (inputs .entry)) values bases ends or-else registers-fault (now (t .entry)) (now (registers .entry)) values ⌝ }
+{
+    if let Verdict::Refused(n, p) = check_arguments(t, variables, inputs, values, bases, ends) {
+        return Verdict::Refused(n, p);
+    }
+    check_registers(t, variables, registers, values)
+}
+
+// The memory that a run begins with: clear, but for the inputs and the registers. Answers the first unused word.
+fn begin(
+    variables: usize,
+    inputs: &[u32],
+    registers: &[u32],
+    values: &mut [u32],
+    bases: &mut [u32],
+    ends: &mut [u32],
+) -> u32
+    requires { ⌜ Can-begin variables (now inputs) (now registers) (now values) (now bases) (now ends) ⌝ }
+    ensures { λ r. ⌜ Has-begun variables (now (inputs .entry)) (now (registers .entry)) (now (values .entry)) (now (values .exit)) (now (bases .exit)) (now (ends .exit)) r ⌝ }
+{
+    clear(values);
+    clear(bases);
+    clear(ends);
+    store_all(values, 1, inputs);
+    set_registers(registers, narrow(variables) + 1, values, bases, ends)
+}
+
 // The commands of a table that passed the check, from the memory that a run begins with: lends the evaluator the table's lists.
 fn run_commands<'a>(
     t: &'a [u32],
@@ -54,16 +90,16 @@ fn run_commands<'a>(
     first: &'a [u32; 33],
     before: &'a [u32; 129],
     notes: &'a [u32; 512],
+    unused: u32,
     values: &mut [u32],
     bases: &mut [u32],
     ends: &mut [u32],
 ) -> Answer
-    requires { ⌜ Startable (now t) layout (now first) (now before) (now notes) (now values) (now bases) (now ends) ⌝ }
-    ensures { λ r. ⌜ Executed (now (t .entry)) (state-of (lists (now (values .entry)) (now (bases .entry)) (now (ends .entry))) (count (now (t .entry)) 3 + 1) []) r (now (values .exit)) (now (bases .exit)) (now (ends .exit)) ⌝ }
+    requires { ⌜ Startable (now t) layout (now first) (now before) (now notes) unused (now values) (now bases) (now ends) ⌝ }
+    ensures { λ r. ⌜ Executed (now (t .entry)) (now (values .entry)) (now (bases .entry)) (now (ends .entry)) unused r (now (values .exit)) (now (bases .exit)) (now (ends .exit)) ⌝ }
 {
     let fields = layout.fields;
     let pointers = layout.pointers;
-    let variables = layout.variables;
     let nodes = layout.nodes;
     let section = layout.commands;
     let first_field = fields.at;
@@ -77,7 +113,6 @@ fn run_commands<'a>(
         &first[..],
         &before[..],
     ];
-    let unused = narrow(variables.count) + 1;
     let e = commands::execute(
         t,
         section.at,
@@ -99,29 +134,28 @@ fn run_checked<'a>(
     before: &'a [u32; 129],
     notes: &'a [u32; 512],
     inputs: &[u32],
+    registers: &[u32],
     values: &mut [u32],
     bases: &mut [u32],
     ends: &mut [u32],
 ) -> Answer
     requires { ⌜ (Program (now t) (now first) (now before) (now notes)) × (layout ≡ layout-specs.layout (now t)) ⌝ }
-    ensures { λ r. ⌜ Is (call (now (t .entry)) (now (inputs .entry)) (now (values .entry)) (now (bases .entry)) (now (ends .entry))) r (now (values .exit)) (now (bases .exit)) (now (ends .exit)) ⌝ }
+    ensures { λ r. ⌜ Is (call (now (t .entry)) (now (inputs .entry)) (now (registers .entry)) (now (values .entry)) (now (bases .entry)) (now (ends .entry))) r (now (values .exit)) (now (bases .exit)) (now (ends .exit)) ⌝ }
 {
     let variables = layout.variables;
-    if let Verdict::Refused(n, p) = check_arguments(
+    if let Verdict::Refused(n, p) = check_call(
         t,
         variables,
         inputs,
+        registers,
         values.len(),
         bases.len(),
         ends.len(),
     ) {
         return Answer::Refused(n, p);
     }
-    clear(values);
-    clear(bases);
-    clear(ends);
-    set_inputs(values, inputs);
-    run_commands(t, layout, first, before, notes, values, bases, ends)
+    let unused = begin(variables.count, inputs, registers, values, bases, ends);
+    run_commands(t, layout, first, before, notes, unused, values, bases, ends)
 }
 
 // Whether a table passes, or the number and place of its refusal. Any words, any length.
@@ -137,22 +171,34 @@ pub fn check(t: &[u32]) -> Verdict
     }
 }
 
-// Checks and runs a table. A refused call changes no word of the lists.
+// Checks and runs a table, with these inputs and this list of registers. A refused call changes no word of the lists.
 pub fn run(
     t: &[u32],
     inputs: &[u32],
+    registers: &[u32],
     values: &mut [u32],
     bases: &mut [u32],
     ends: &mut [u32],
 ) -> Answer
-    ensures called { λ r. ⌜ Is (call (now (t .entry)) (now (inputs .entry)) (now (values .entry)) (now (bases .entry)) (now (ends .entry))) r (now (values .exit)) (now (bases .exit)) (now (ends .exit)) ⌝ }
-    ensures safe { λ r. ⌜ Spatially-safe (now (t .entry)) (now (inputs .entry)) (now (values .entry)) (now (bases .entry)) (now (ends .entry)) ⌝ }
+    ensures called { λ r. ⌜ Is (call (now (t .entry)) (now (inputs .entry)) (now (registers .entry)) (now (values .entry)) (now (bases .entry)) (now (ends .entry))) r (now (values .exit)) (now (bases .exit)) (now (ends .exit)) ⌝ }
+    ensures safe { λ r. ⌜ Spatially-safe (now (t .entry)) (now (inputs .entry)) (now (registers .entry)) (now (values .entry)) (now (bases .entry)) (now (ends .entry)) ⌝ }
 {
     let mut first = [0u32; 33];
     let mut before = [0u32; 129];
     let mut notes = [0u32; 512];
     match table::check(t, &mut first, &mut before, &mut notes) {
-        Parsed::Is(l) => run_checked(t, l, &first, &before, &notes, inputs, values, bases, ends),
+        Parsed::Is(l) => run_checked(
+            t,
+            l,
+            &first,
+            &before,
+            &notes,
+            inputs,
+            registers,
+            values,
+            bases,
+            ends,
+        ),
         Parsed::Refused(n, p) => Answer::Refused(n, p),
     }
 }

@@ -1,12 +1,12 @@
 -- Where the parts of a case lie.
-use Prim.Native.Nat.{ℕ, _≤_}
+use Prim.Native.Nat.{ℕ, _≤_, _<_}
 use mathlib.Core.List.{List}
 use lib.ListN.{length}
 use Rattle.replay.specs.declared.Case.{Case}
 use Rattle.replay.specs.declared.Case.the-variants.{Run, Check, Malformed}
 
--- The table of a case starts after nine numbers and the inputs.
+-- The register list of a case starts after eight numbers and the inputs, and the table after the list and its own count.
 abbrev pub Parsed : List ℕ → Case → Type 0
-Parsed numbers (Run from) = (9 ≤ from) × (from ≤ length numbers)
+Parsed numbers (Run list from) = (8 ≤ list) × (list < from) × (from ≤ length numbers)
 Parsed numbers (Check from) = (9 ≤ from) × (from ≤ length numbers)
 Parsed numbers Malformed = Unit {0}

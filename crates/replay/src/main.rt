@@ -1,7 +1,7 @@
 // Answers recorded cases, one line in and one line out, so that thousands run in one process. A case is
 // `CALL LIGHT LV LB LE LK NI i.. NR r.. NT t..`: CALL is 0 for a run and 1 for the check alone; LV, LB and LE are the lengths of the
-// lists lent, with the word 7 in every place; LK is not used, LIGHT and NR are 0; i.. are the inputs and t.. the table. A line that is
-// none is answered by `case`.
+// lists lent, with the word 7 in every place; LK is not used, LIGHT is 0; i.. are the inputs, r.. the register list and t.. the table. A
+// line that is none is answered by `case`.
 use layout::Verdict;
 use layout::index;
 use layout::long;
@@ -11,24 +11,26 @@ use stream::least;
 use stream::make_room;
 use stream::put_after;
 use text::Scanner;
-ghost use Prim.Native.Nat.{_≤_};
+ghost use Prim.Native.Nat.{_≤_, _<_};
 ghost use lib.ListN.{length};
 ghost use Rattle.replay.specs.Case.{Parsed};
 
-// What the numbers of a line ask for, and where the table starts.
+// What the numbers of a line ask for: where the register list starts, for a run, and where the table does.
 enum Case {
-    Run(usize),
+    Run(usize, usize),
     Check(usize),
     Malformed,
 }
 
 impl Case {
-    // The most words of a list, entries of the block list, inputs, and words of the table.
+    // The most words of a list, entries of the block list, inputs, words of the register list, and words of the table.
     const LIST: u32 = 65537;
 
     const BLOCKS: u32 = 200;
 
     const INPUTS: u32 = 100;
+
+    const REGISTERS: u32 = 70000;
 
     const TABLE: u32 = 4000;
 
@@ -45,11 +47,12 @@ impl Case {
         if Case::LIST < numbers[4] || Case::BLOCKS < numbers[5] || Case::INPUTS < numbers[6] {
             return Case::Malformed;
         }
-        let from = 9 + index(numbers[6]);
-        if n < from {
+        let list = 8 + index(numbers[6]);
+        if n <= list || Case::REGISTERS < numbers[list - 1] {
             return Case::Malformed;
         }
-        if numbers[from - 2] != 0 || Case::TABLE < numbers[from - 1] {
+        let from = list + 1 + index(numbers[list - 1]);
+        if n < from || Case::TABLE < numbers[from - 1] {
             return Case::Malformed;
         }
         if index(numbers[from - 1]) != n - from {
@@ -57,7 +60,7 @@ impl Case {
         }
         let call = numbers[0];
         match call {
-            0 => Case::Run(from),
+            0 => Case::Run(list, from),
             1 => Case::Check(from),
             _ => Case::Malformed,
         }
@@ -181,6 +184,7 @@ fn put_run(
 fn run_filled(
     t: &[u32],
     inputs: &[u32],
+    registers: &[u32],
     values: &mut [u32],
     bases: &mut [u32],
     ends: &mut [u32],
@@ -190,12 +194,13 @@ fn run_filled(
     fill(values);
     fill(bases);
     fill(ends);
-    let a = machine::run(t, inputs, values, bases, ends);
+    let a = machine::run(t, inputs, registers, values, bases, ends);
     put_run(out, at, a, values, bases, ends)
 }
 
 fn run_case(
     numbers: &[u32],
+    list: usize,
     from: usize,
     values: &mut [u32],
     bases: &mut [u32],
@@ -203,16 +208,18 @@ fn run_case(
     out: &mut [u8],
     at: usize,
 ) -> usize
-    requires { ⌜ (9 ≤ from) × (from ≤ length (now numbers)) ⌝ }
+    requires { ⌜ (8 ≤ list) × (list < from) × (from ≤ length (now numbers)) ⌝ }
 {
     // A case has no longer lists than the program, so nothing is cut off.
     let v = least(index(numbers[2]), values.len());
     let b = least(index(numbers[3]), bases.len());
     let e = least(index(numbers[4]), ends.len());
-    let end = from - 2;
+    let inputs_end = list - 1;
+    let list_end = from - 1;
     run_filled(
         &numbers[from..],
-        &numbers[7..end],
+        &numbers[7..inputs_end],
+        &numbers[list..list_end],
         &mut values[0..v],
         &mut bases[0..b],
         &mut ends[0..e],
@@ -240,7 +247,7 @@ fn answer_numbers(
     at: usize,
 ) -> usize {
     match Case::of(numbers) {
-        Case::Run(from) => run_case(numbers, from, values, bases, ends, out, at),
+        Case::Run(list, from) => run_case(numbers, list, from, values, bases, ends, out, at),
         Case::Check(from) => check_case(&numbers[from..], out, at),
         Case::Malformed => text::put_bytes(out, at, b"case\n"),
     }
@@ -333,8 +340,8 @@ fn answer_all(
 
 fn main() {
     let mut buffer = io::large_buffer();
-    // Room for nine numbers, 100 inputs and a table of 4,000 words.
-    let mut numbers = [0u32; 4109];
+    // Room for nine numbers, 100 inputs, a register list of 70,000 words and a table of 4,000.
+    let mut numbers = [0u32; 74109];
     let mut values = [0u32; 65537];
     let mut bases = [0u32; 65537];
     let mut ends = [0u32; 65537];

@@ -9,7 +9,7 @@ use borrow.Author.Tests.{ltb-true, eqb-false}
 use lib.Dec.{ltb, eqb}
 use Rattle.semantics.specs.Words.{Words}
 use Rattle.semantics.specs.Table.{nodes, count, Operand, unused, variable-number, field-number, any-word, type-word, target-word, place-child, value-child, operand-a, operand-b, node-kind, node-a, node-b, children}
-use Rattle.semantics.specs.Check.{Verdict, passes, refused, _or-else_, require, each, section-fault, words-over, record-fault, field-sum-fault, field-fault, pointer-fault, variable-fault, operand-fault, any-of, deeper, node-fault, command-fault, use-fault, check, input-fault, arguments-fault, call-fault}
+use Rattle.semantics.specs.Check.{Verdict, passes, refused, _or-else_, require, each, section-fault, words-over, record-fault, field-sum-fault, field-fault, pointer-fault, variable-fault, operand-fault, any-of, deeper, node-fault, command-fault, use-fault, check, input-fault, arguments-fault, extent-fault, name-fault, room-fault, registers-fault, call-fault}
 use Rattle.semantics.proofs.Tests.{and-true, or-true}
 use Rattle.semantics.proofs.Passed.{each-passes, section-ok}
 
@@ -124,10 +124,17 @@ module _ (t : Words) where
 pub check-never-12 : (t : Words) (p : ℕ) → check t ≡ refused 12 p → ⊥
 check-never-12 t = check-never t .never
 
-pub call-never-12 : (t inputs : Words) (values bases ends p : ℕ) → call-fault t inputs values bases ends ≡ refused 12 p → ⊥
-unfolding call-fault arguments-fault input-fault
-call-never-12 t inputs values bases ends =
+pub call-never-12 : (t inputs registers : Words) (values bases ends p : ℕ) → call-fault t inputs registers values bases ends ≡ refused 12 p → ⊥
+unfolding call-fault arguments-fault input-fault registers-fault extent-fault name-fault room-fault
+call-never-12 t inputs registers values bases ends =
     or-else-never (check t) _ (check-never t)
-    (λ _. or-else-never _ _ (require-never _ 10 _ refl)
+    (λ _. or-else-never (arguments-fault t inputs values bases ends) _
+    (or-else-never _ _ (require-never _ 10 _ refl)
     (λ _. or-else-never _ _ (require-never _ 11 _ refl)
-    (λ _. each-never _ _ (λ i h. require-never _ 11 _ refl)))) .never
+    (λ _. each-never _ _ (λ i h. require-never _ 11 _ refl))))
+    (λ _. or-else-never (extent-fault registers) _
+    (or-else-never _ _ (require-never _ 13 _ refl)
+    (λ _. or-else-never _ _ (require-never _ 13 _ refl)
+    (λ _. require-never _ 13 _ refl)))
+    (λ _. or-else-never _ _ (each-never _ _ (λ i h. require-never _ _ _ refl))
+    (λ _. each-never _ _ (λ i h. require-never _ _ _ refl))))) .never

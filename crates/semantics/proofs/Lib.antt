@@ -5,6 +5,7 @@ pub mod Lists
 pub mod Passed
 pub mod Invariant
 pub mod Steps
+pub mod Registers
 pub mod Trees
 pub mod Safety
 pub mod Depth

@@ -12,7 +12,7 @@ use lib.ListN.{length, set, length-set}
 use lib.Seq.{getD-set-same, getD-set-other}
 use Rattle.semantics.specs.Words.{Words, word, if_then_else_}
 use Rattle.semantics.specs.Syntax.{Place, Variable, Deref, Field, Value, Number, Sum, Read, Address, Cast, Malloc}
-use Rattle.semantics.specs.Rules.{Datum, unbounded, Access, Location, Event, loaded, stored, allocated, State, noted, ok, fails, no-room, in-bounds, checked, deref-step, field-step, touchable, contents, read-step, cast-step, with-block, malloc-step, place-at, value-at, with-datum, assign-step, assign}
+use Rattle.semantics.specs.Rules.{Datum, unbounded, block-pointer, Access, Location, Event, loaded, stored, allocated, State, noted, ok, fails, no-room, in-bounds, checked, deref-step, field-step, touchable, contents, read-step, cast-step, with-block, malloc-step, place-at, value-at, with-datum, assign-step, assign}
 use Rattle.semantics.specs.Safety.{variable, block, Held, Permitted, by-name, by-pointer, Allowed, load, store, alloc, Sound, absent, held, Unwritten, Same-word}
 use Rattle.semantics.proofs.Tests.{in-bounds-true, and-both}
 use Rattle.semantics.proofs.Invariant.{Inv, Within, Later, now, sound-later, permitted-used, Datum-ok, Location-ok, location-later, Good, good-ok, good-fails, good-no-room, bind-good}
@@ -51,7 +51,7 @@ not-loaded a n q = let z : _≡_ {A = ℕ} 0 1 = cc in omega arith
 not-stored : {w : ℕ} {x : Access} (a n : ℕ) → allocated a n ≡ stored w x → ⊥
 not-stored a n q = let z : _≡_ {A = ℕ} 0 1 = cc in omega arith
 
-block-inv : {vars len : ℕ} {s : State} (n : ℕ) → Inv vars len s → s .unused + n ≤ len → Inv vars len (with-block n s)
+pub block-inv : {vars len : ℕ} {s : State} (n : ℕ) → Inv vars len s → s .unused + n ≤ len → Inv vars len (with-block n s)
 block-inv {vars} {len} {s} n inv fits =
     record {
       values-length = inv .values-length;
@@ -72,7 +72,7 @@ block-inv {vars} {len} {s} n inv fits =
         omega (arith, inv .low)
 
 -- A store at w, which is in use: the word's bounds are the datum's, every other word is as it was.
-pointer-inv : {vars len : ℕ} {s : State} (w : ℕ) (x : Datum) → w < s .unused → Inv vars len s → Datum-ok vars x s → Inv vars len (with-datum true w x s)
+pub pointer-inv : {vars len : ℕ} {s : State} (w : ℕ) (x : Datum) → w < s .unused → Inv vars len s → Datum-ok vars x s → Inv vars len (with-datum true w x s)
 pointer-inv {vars} {len} {s} w x used inv good =
     record {
       values-length = length-set (s .values) w (x .value) ∙ inv .values-length;
@@ -210,7 +210,7 @@ malloc-good {vars} {len} x s inv = go (eqb (x .value) 0) refl (leb (s .unused + 
     go : (none : Bool) → eqb (x .value) 0 ≡ none → (fits : Bool) → leb (s .unused + x .value) (length (s .values)) ≡ fits
         → Good vars len s (Datum-ok vars)
         (if none then ok (unbounded 0) s else
-        if fits then ok (record { value = s .unused; base = s .unused; end = s .unused + x .value }) (with-block (x .value) s) else
+        if fits then ok (block-pointer (s .unused) (x .value)) (with-block (x .value) s) else
         no-room s)
     go true e fits f = good-ok inv now (record { sound = absent refl refl })
     go false e true f =

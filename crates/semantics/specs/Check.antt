@@ -1,11 +1,12 @@
--- Document 01, "What is turned away": the refusals by number and place, in its order.
+-- Document 01, "What is turned away", and what request 1 adds to it: the refusals by number and place, in their order.
 use Prim.Native.Nat.{ℕ, zero, suc, _+_}
 use mathlib.Core.Bool.{Bool, true, false, not, _&&_, _||_}
 use mathlib.Core.List.{[], _∷_}
 use lib.ListN.{length}
 use lib.Dec.{leb, ltb, eqb}
 use Rattle.semantics.specs.Words.{Words, word, sum-below, if_then_else_}
-use Rattle.semantics.specs.Table.{records, fields, pointers, variables, nodes, commands, limits, count-place, count, item-place, item, int, known-type, known-target, points-to-type, points-to-record, pointed-record, entry-below, field-total, first-field, Kind, variable, deref, field, constant, sum, read, address, cast, size, malloc, unknown, Sort, place, value, neither, sort-of, Operand, unused, variable-number, field-number, any-word, type-word, target-word, place-child, value-child, operand-a, operand-b, node-kind, node-a, node-b, children, node-type}
+use Rattle.semantics.specs.Table.{records, fields, pointers, variables, nodes, commands, limits, count-place, count, item-place, item, int, is-pointer, known-type, known-target, points-to-type, points-to-record, pointed-record, entry-below, field-total, first-field, Kind, variable, deref, field, constant, sum, read, address, cast, size, malloc, unknown, Sort, place, value, neither, sort-of, Operand, unused, variable-number, field-number, any-word, type-word, target-word, place-child, value-child, operand-a, operand-b, node-kind, node-a, node-b, children, node-type}
+use Rattle.semantics.specs.Registers.{register-count, register-place, register-variable, naming-below, register-start}
 
 pub data Verdict : Type 0 where
   passes : Verdict
@@ -179,6 +180,33 @@ arguments-fault t inputs values bases ends =
     or-else require (eqb (length inputs) (count t variables)) 11 (count t variables)
     or-else each (count t variables) (input-fault t inputs)
 
+-- 13: "the list is cut short, has words over or counts more than 16"; its place is "the count, else the list's length if cut short, else the
+-- first word over".
+unfoldable pub extent-fault : Words → Verdict
+extent-fault l =
+    require (leb (register-count l) 16) 13 0
+    or-else require (leb (register-place l (register-count l)) (length l)) 13 (length l)
+    or-else require (leb (length l) (register-place l (register-count l))) 13 (register-place l (register-count l))
+
+-- 14: "a variable is unknown, not a pointer or named before"; its place is "the first variable word at fault".
+unfoldable pub names-pointer : Words → ℕ → Bool
+names-pointer t v = ltb v (count t variables) && is-pointer (item t variables v 0)
+
+unfoldable pub name-fault : Words → Words → ℕ → Verdict
+name-fault t l i =
+    require (names-pointer t (register-variable l i) && leb i (naming-below l i (register-variable l i))) 14 (register-place l i)
+
+-- 15: "the registers don't fit in memory"; its place is "the length word of the first register that doesn't fit".
+unfoldable pub room-fault : ℕ → Words → ℕ → ℕ → Verdict
+room-fault first l memory i = require (leb (register-start first l (suc i)) memory) 15 (register-place l i + 1)
+
+-- "all after 11 in that order": each number over the whole list before the next.
+unfoldable pub registers-fault : Words → Words → ℕ → Verdict
+registers-fault t l memory =
+    extent-fault l
+    or-else each (register-count l) (name-fault t l) or-else each (register-count l) (room-fault (1 + count t variables) l memory)
+
 -- A call's refusals.
-unfoldable pub call-fault : Words → Words → ℕ → ℕ → ℕ → Verdict
-call-fault t inputs values bases ends = check t or-else arguments-fault t inputs values bases ends
+unfoldable pub call-fault : Words → Words → Words → ℕ → ℕ → ℕ → Verdict
+call-fault t inputs registers values bases ends =
+    check t or-else arguments-fault t inputs values bases ends or-else registers-fault t registers values

@@ -1,5 +1,5 @@
--- Document 01's refusal examples, starred runs and routine A as one table each: what is called, and what must be answered.
--- proofs/Examples.antt computes both tables.
+-- Document 01's refusal examples, starred runs and routine A as one table each, and registers beside them: what is called, and what must be
+-- answered. proofs/Examples.antt computes the tables.
 use Prim.Native.Nat.{ℕ, _+_, _-_, _/_}
 use mathlib.Core.List.{List, [], _∷_, _++_}
 use lib.ListN.{length, replicate}
@@ -12,6 +12,7 @@ use Rattle.semantics.specs.Run.{done, abort, out-of-memory, Answer, refu
 pub record Example : Type 0 where
   pub table : Words
   pub inputs : Words
+  pub registers : Words
   pub length : ℕ
   pub verdict : Verdict
   pub answer : Answer
@@ -29,8 +30,12 @@ shown (ending e u) r = grow (λ w before. cell r (1 + w)) (u - 1)
 unfoldable pub observed : Example → Example
 observed x =
     let lent : Words = replicate (x .length) 7 in
-    let r : Result = call (x .table) (x .inputs) lent lent lent in
-    record { table = x .table; inputs = x .inputs; length = x .length; verdict = check (x .table); answer = r .answer; memory = shown (r .answer) r }
+    let r : Result = call (x .table) (x .inputs) (x .registers) lent lent lent in
+    record { table = x .table; inputs = x .inputs; registers = x .registers; length = x .length; verdict = check (x .table); answer = r .answer; memory = shown (r .answer) r }
+
+-- The list that the bench program hands in.
+no-registers : Words
+no-registers = 0 ∷ []
 
 -- ---- "What is turned away", one example for each number that the check gives; the lent words stay as they came
 
@@ -38,10 +43,10 @@ untouched : ℕ → List Datum
 untouched n = replicate n (record { value = 7; base = 7; end = 7 })
 
 refused-table : Words → ℕ → ℕ → Example
-refused-table t n p = record { table = t; inputs = []; length = 2; verdict = refused n p; answer = refusal n p; memory = untouched 2 }
+refused-table t n p = record { table = t; inputs = []; registers = no-registers; length = 2; verdict = refused n p; answer = refusal n p; memory = untouched 2 }
 
 unfoldable pub refusals : List Example
-unfolding untouched refused-table
+unfolding no-registers untouched refused-table
 refusals =
     refused-table (0 ∷ 0 ∷ 0 ∷ []) 1 3
     ∷ refused-table (0 ∷ 0 ∷ 0 ∷ 0 ∷ 0 ∷ 0 ∷ 9 ∷ []) 2 6
@@ -52,8 +57,8 @@ refusals =
     ∷ refused-table (0 ∷ 0 ∷ 0 ∷ 0 ∷ 1 ∷ 11 ∷ 0 ∷ 0 ∷ 0 ∷ []) 7 5
     ∷ refused-table (0 ∷ 0 ∷ 0 ∷ 1 ∷ 1 ∷ 3 ∷ 1 ∷ 0 ∷ 0 ∷ 6 ∷ 0 ∷ 0 ∷ 2 ∷ 1 ∷ 0 ∷ 0 ∷ []) 8 12
     ∷ refused-table (0 ∷ 0 ∷ 0 ∷ 0 ∷ 1 ∷ 4 ∷ 7 ∷ 0 ∷ 0 ∷ []) 9 5
-    ∷ record { table = 0 ∷ 0 ∷ 0 ∷ 0 ∷ 0 ∷ 0 ∷ []; inputs = []; length = 0; verdict = passes; answer = refusal 10 0; memory = [] }
-    ∷ record { table = 0 ∷ 0 ∷ 0 ∷ 1 ∷ 1 ∷ 0 ∷ 0 ∷ []; inputs = 5 ∷ []; length = 2; verdict = passes; answer = refusal 11 0; memory = untouched 2 }
+    ∷ record { table = 0 ∷ 0 ∷ 0 ∷ 0 ∷ 0 ∷ 0 ∷ []; inputs = []; registers = no-registers; length = 0; verdict = passes; answer = refusal 10 0; memory = [] }
+    ∷ record { table = 0 ∷ 0 ∷ 0 ∷ 1 ∷ 1 ∷ 0 ∷ 0 ∷ []; inputs = 5 ∷ []; registers = no-registers; length = 2; verdict = passes; answer = refusal 11 0; memory = untouched 2 }
     ∷ []
 
 -- ---- "Runs to compare"
@@ -67,6 +72,7 @@ routine ns cs a m =
     record {
       table = 0 ∷ 0 ∷ 2 ∷ 0 ∷ 2 ∷ 1 ∷ 2 ∷ length ns / 3 ∷ ns ++ (length cs / 2 ∷ cs);
       inputs = 0 ∷ [];
+      registers = no-registers;
       length = 4;
       verdict = passes;
       answer = a;
@@ -82,10 +88,10 @@ store-at-p-plus : ℕ → Words
 store-at-p-plus k = 1 ∷ 0 ∷ 0 ∷ 6 ∷ 4 ∷ 0 ∷ 4 ∷ k ∷ 0 ∷ 5 ∷ 5 ∷ 6 ∷ 2 ∷ 7 ∷ 0 ∷ 4 ∷ 5 ∷ 0 ∷ []
 
 unfoldable pub runs : List Example
-unfolding bounded routine malloc-to-p store-at-p-plus
+unfolding no-registers bounded routine malloc-to-p store-at-p-plus
 runs =
     -- six zeros, memory 1 word
-    record { table = 0 ∷ 0 ∷ 0 ∷ 0 ∷ 0 ∷ 0 ∷ []; inputs = []; length = 1; verdict = passes; answer = ending done 1; memory = [] }
+    record { table = 0 ∷ 0 ∷ 0 ∷ 0 ∷ 0 ∷ 0 ∷ []; inputs = []; registers = no-registers; length = 1; verdict = passes; answer = ending done 1; memory = [] }
     -- m, malloc(3), malloc(0)
     ∷ routine (malloc-to-p 2) (0 ∷ 3 ∷ []) (ending done 4) (bounded 2 2 4 ∷ unbounded 0 ∷ unbounded 0 ∷ [])
     ∷ routine (malloc-to-p 3) (0 ∷ 3 ∷ []) (ending (out-of-memory 0) 2) (unbounded 0 ∷ [])
@@ -136,9 +142,84 @@ runs =
           ∷ 1 ∷ 1 ∷ 0 ∷ 6 ∷ 18 ∷ 0 ∷ 2 ∷ 19 ∷ 0 ∷ 4 ∷ 9 ∷ 0
           ∷ 5 ∷ 0 ∷ 3 ∷ 4 ∷ 8 ∷ 11 ∷ 12 ∷ 13 ∷ 17 ∷ 20 ∷ 21 ∷ [];
       inputs = 0 ∷ 0 ∷ [];
+      registers = no-registers;
       length = 16;
       verdict = passes;
       answer = ending (abort 4) 7;
       memory = bounded 3 3 7 ∷ bounded 5 3 5 ∷ unbounded 9 ∷ unbounded 0 ∷ unbounded 0 ∷ unbounded 0 ∷ [];
     }
+    ∷ []
+
+-- ---- Request 1
+
+-- Two variables, a pointer to void and an int, in memory of 6 words; refused for this register list.
+refused-list : Words → ℕ → ℕ → Example
+refused-list l n p =
+    record {
+      table = 0 ∷ 0 ∷ 0 ∷ 2 ∷ 1 ∷ 0 ∷ 0 ∷ 0 ∷ [];
+      inputs = 0 ∷ 0 ∷ [];
+      registers = l;
+      length = 6;
+      verdict = passes;
+      answer = refusal n p;
+      memory = untouched 6;
+    }
+
+unfoldable pub refused-lists : List Example
+unfolding untouched refused-list
+refused-lists =
+    -- more than 16 registers, also where the list is cut short too
+    refused-list (17 ∷ []) 13 0
+    -- cut short: empty, before a length, within a register's words, however many there should be
+    ∷ refused-list [] 13 0
+    ∷ refused-list (1 ∷ 0 ∷ []) 13 2
+    ∷ refused-list (1 ∷ 0 ∷ 3 ∷ 5 ∷ 6 ∷ []) 13 5
+    ∷ refused-list (2 ∷ 0 ∷ 4294967295 ∷ 5 ∷ []) 13 4
+    -- words over, told before the variable that is unknown
+    ∷ refused-list (0 ∷ 0 ∷ []) 13 1
+    ∷ refused-list (1 ∷ 2 ∷ 1 ∷ 5 ∷ 6 ∷ []) 13 4
+    -- a variable that is unknown, one that is an int, and one that was named by a register of no words
+    ∷ refused-list (1 ∷ 2 ∷ 0 ∷ []) 14 1
+    ∷ refused-list (1 ∷ 1 ∷ 0 ∷ []) 14 1
+    ∷ refused-list (2 ∷ 0 ∷ 0 ∷ 0 ∷ 1 ∷ 5 ∷ []) 14 3
+    -- one word too many, told after the second register's variable
+    ∷ refused-list (1 ∷ 0 ∷ 4 ∷ 5 ∷ 6 ∷ 7 ∷ 8 ∷ []) 15 2
+    ∷ refused-list (2 ∷ 0 ∷ 4 ∷ 5 ∷ 6 ∷ 7 ∷ 8 ∷ 1 ∷ 0 ∷ []) 14 7
+    ∷ []
+
+-- Two variables p and q, pointers to int (type 2), with this register list and these nodes and commands.
+on-registers : Words → ℕ → Words → Words → Answer → List Datum → Example
+on-registers l len ns cs a m =
+    record {
+      table = 0 ∷ 0 ∷ 1 ∷ 0 ∷ 2 ∷ 2 ∷ 2 ∷ length ns / 3 ∷ ns ++ (length cs / 2 ∷ cs);
+      inputs = 0 ∷ 0 ∷ [];
+      registers = l;
+      length = len;
+      verdict = passes;
+      answer = a;
+      memory = m;
+    }
+
+-- Nodes 0 to 4: *(p + k), and node 5: 5.
+store-in-register : ℕ → Words
+store-in-register k = 1 ∷ 0 ∷ 0 ∷ 6 ∷ 0 ∷ 0 ∷ 4 ∷ k ∷ 0 ∷ 5 ∷ 1 ∷ 2 ∷ 2 ∷ 3 ∷ 0 ∷ 4 ∷ 5 ∷ 0 ∷ []
+
+unfoldable pub register-runs : List Example
+unfolding bounded malloc-to-p on-registers store-in-register
+register-runs =
+    -- q is named first, memory is filled exactly; a register of no words leaves p without bounds
+    on-registers (2 ∷ 1 ∷ 2 ∷ 70 ∷ 80 ∷ 0 ∷ 1 ∷ 90 ∷ []) 6 [] []
+    (ending done 6) (bounded 5 5 6 ∷ bounded 3 3 5 ∷ unbounded 70 ∷ unbounded 80 ∷ unbounded 90 ∷ [])
+    ∷ on-registers (2 ∷ 0 ∷ 0 ∷ 1 ∷ 1 ∷ 70 ∷ []) 4 [] []
+    (ending done 4) (unbounded 0 ∷ bounded 3 3 4 ∷ unbounded 70 ∷ [])
+    -- *(p+1) = 5 within p's register, and past it onto q's
+    ∷ on-registers (2 ∷ 0 ∷ 2 ∷ 70 ∷ 80 ∷ 1 ∷ 1 ∷ 90 ∷ []) 6 (store-in-register 1) (4 ∷ 5 ∷ [])
+    (ending done 6) (bounded 3 3 5 ∷ bounded 5 5 6 ∷ unbounded 70 ∷ unbounded 5 ∷ unbounded 90 ∷ [])
+    ∷ on-registers (2 ∷ 0 ∷ 1 ∷ 70 ∷ 1 ∷ 1 ∷ 90 ∷ []) 5 (store-in-register 1) (4 ∷ 5 ∷ [])
+    (ending (abort 0) 5) (bounded 3 3 4 ∷ bounded 4 4 5 ∷ unbounded 70 ∷ unbounded 90 ∷ [])
+    -- p = (int*)malloc(2): a block after the registers, and no room for it
+    ∷ on-registers (1 ∷ 1 ∷ 1 ∷ 70 ∷ []) 6 (malloc-to-p 2) (0 ∷ 3 ∷ [])
+    (ending done 6) (bounded 4 4 6 ∷ bounded 3 3 4 ∷ unbounded 70 ∷ unbounded 0 ∷ unbounded 0 ∷ [])
+    ∷ on-registers (1 ∷ 1 ∷ 1 ∷ 70 ∷ []) 5 (malloc-to-p 2) (0 ∷ 3 ∷ [])
+    (ending (out-of-memory 0) 4) (unbounded 0 ∷ bounded 3 3 4 ∷ unbounded 70 ∷ [])
     ∷ []

@@ -1,6 +1,8 @@
--- Document 01 as definitions, in its order: the table, what is turned away, syntax trees, the steps, a whole call, the fence rule.
+-- Document 01 as definitions, in its order: the table, what is turned away, syntax trees, the steps, a whole call, the fence rule. The
+-- registers that request 1 adds stand after the table.
 pub mod Words
 pub mod Table
+pub mod Registers
 pub mod Check
 pub mod Syntax
 pub mod Rules

@@ -16,6 +16,10 @@ pub record Datum : Type 0 where
 abbrev pub unbounded : ℕ → Datum
 unbounded v = record { value = v; base = 0; end = 0 }
 
+-- A pointer to the first of n words, with the bounds of all of them.
+abbrev pub block-pointer : ℕ → ℕ → Datum
+block-pointer start n = record { value = start; base = start; end = start + n }
+
 -- How a place was come by: it names a variable, or this pointer was followed.
 pub data Access : Type 0 where
   named : (variable : ℕ) → Access
@@ -127,7 +131,7 @@ unfoldable pub malloc-step : Datum → State → Outcome Datum
 malloc-step x s =
     if eqb (x .value) 0 then ok (unbounded 0) s else
     if leb (s .unused + x .value) (length (s .values)) then
-    ok (record { value = s .unused; base = s .unused; end = s .unused + x .value }) (with-block (x .value) s) else
+    ok (block-pointer (s .unused) (x .value)) (with-block (x .value) s) else
     no-room s
 
 -- "Evaluation is a cycle: a place may need a value worked out first, and a value may need a place. Child a goes before child b"

@@ -1,19 +1,40 @@
 -- A whole call: what is answered, and what every lent word holds afterwards.
 use Prim.Native.Nat.{ℕ, zero, suc, _+_}
+use mathlib.Core.Bool.{true}
 use mathlib.Core.List.{[]}
 use lib.ListN.{length, replicate}
 use lib.Seq.{sets}
 use Rattle.semantics.specs.Words.{Words}
 use Rattle.semantics.specs.Table.{variables, commands, count, is-pointer, node-type}
+use Rattle.semantics.specs.Registers.{register-count, register-variable, register-length, register-words}
 use Rattle.semantics.specs.Check.{Verdict, passes, refused, command-place, command-value, call-fault}
 use Rattle.semantics.specs.Syntax.{place-of, value-of}
-use Rattle.semantics.specs.Rules.{State, Outcome, ok, fails, no-room, no-rule, assign}
+use Rattle.semantics.specs.Rules.{unbounded, block-pointer, State, Outcome, ok, fails, no-room, no-rule, with-block, with-datum, assign}
 
 -- "U, the first unused word, starts at 1 + the number of variables." "A begun run first clears all three lists, then
 -- sets each variable's value from the input list, one input a variable."
-unfoldable pub begin : Words → Words → ℕ → State
-begin t inputs len =
+unfoldable pub cleared : Words → Words → ℕ → State
+cleared t inputs len =
     record { values = sets (replicate len 0) 1 inputs; bases = replicate len 0; ends = replicate len 0; unused = 1 + count t variables; log = [] }
+
+abbrev pub with-values : Words → State → State
+with-values values s = record { values = values; bases = s .bases; ends = s .ends; unused = s .unused; log = s .log }
+
+-- Request 1: a register of words ws becomes a block at U, its words without bounds, and variable v starts at it with its bounds. "With n = 0 it
+-- starts as 0 without bounds."
+abbrev pub with-register : (v n : ℕ) → Words → State → State
+with-register v zero ws s = with-datum true (1 + v) (unbounded 0) s
+with-register v (suc n) ws s =
+    with-datum true (1 + v) (block-pointer (s .unused) (suc n)) (with-values (sets (s .values) (s .unused) ws) (with-block (suc n) s))
+
+-- The registers below i in order; "U starts after the last register".
+unfoldable pub registers-below : Words → ℕ → State → State
+registers-below l zero s = s
+registers-below l (suc i) s = with-register (register-variable l i) (register-length l i) (register-words l i) (registers-below l i s)
+
+-- "The fence rule now counts a register as a block obtained before the first command": with-block has it in the log.
+unfoldable pub begin : Words → Words → Words → ℕ → State
+begin t inputs registers len = registers-below registers (register-count registers) (cleared t inputs len)
 
 unfoldable pub command : Words → ℕ → State → Outcome (Unit {0})
 command t c = assign (is-pointer (node-type t (command-place t c))) (place-of t (command-place t c)) (value-of t (command-value t c))
@@ -51,8 +72,8 @@ unfoldable pub commands-below : Words → ℕ → State → Run
 commands-below t zero s = ended done s
 commands-below t (suc c) s = then-command t c (commands-below t c s .ending) (commands-below t c s .state)
 
-unfoldable pub run : Words → Words → ℕ → Run
-run t inputs len = commands-below t (count t commands) (begin t inputs len)
+unfoldable pub run : Words → Words → Words → ℕ → Run
+run t inputs registers len = commands-below t (count t commands) (begin t inputs registers len)
 
 -- "Every run answers its ending and U; abort and no room add the command number."
 pub data Answer : Type 0 where
@@ -70,10 +91,10 @@ result-of r =
     record { answer = ending (r .ending) (r .state .unused); values = r .state .values; bases = r .state .bases; ends = r .state .ends }
 
 -- "A refusal answers number and place and writes nowhere."
-abbrev pub call-by : Verdict → Words → Words → Words → Words → Words → Result
-call-by passes t inputs values bases ends = result-of (run t inputs (length values))
-call-by (refused n p) t inputs values bases ends = record { answer = refusal n p; values = values; bases = bases; ends = ends }
+abbrev pub call-by : Verdict → Words → Words → Words → Words → Words → Words → Result
+call-by passes t inputs registers values bases ends = result-of (run t inputs registers (length values))
+call-by (refused n p) t inputs registers values bases ends = record { answer = refusal n p; values = values; bases = bases; ends = ends }
 
-unfoldable pub call : Words → Words → Words → Words → Words → Result
-call t inputs values bases ends =
-    call-by (call-fault t inputs (length values) (length bases) (length ends)) t inputs values bases ends
+unfoldable pub call : Words → Words → Words → Words → Words → Words → Result
+call t inputs registers values bases ends =
+    call-by (call-fault t inputs registers (length values) (length bases) (length ends)) t inputs registers values bases ends

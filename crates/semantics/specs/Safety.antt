@@ -10,7 +10,8 @@ use Rattle.semantics.specs.Check.{passes, call-fault}
 use Rattle.semantics.specs.Rules.{Datum, Access, named, followed, Event, loaded, stored, allocated, State}
 use Rattle.semantics.specs.Run.{begin, stuck, Run, run}
 
--- The words [s, t) of a variable, or of a block that is obtained earlier: "earlier" are the events of the log given.
+-- The words [s, t) of a variable, or of a block that is obtained earlier: "earlier" are the events of the log given. A register is "a block
+-- obtained before the first command": a begun run's first log has it.
 pub data Region (vars : ℕ) (log : List Event) : ℕ → ℕ → Type 0 where
   variable : (i : ℕ) → i < vars → Region vars log (1 + i) (1 + i + 1)
   block : (s n : ℕ) → List·Memᴰ (allocated s n) log → Region vars log s (s + n)
@@ -53,10 +54,10 @@ pub record Safe (vars len : ℕ) (r : Run) : Type 0 where
   pub lengths : (length (r .state .values) ≡ len) × (length (r .state .bases) ≡ len) × (length (r .state .ends) ≡ len)
 
 -- "Whatever passes the check and whatever a run of it is begun with": "A run is begun when its call isn't refused."
-abbrev pub Spatially-safe : Words → Words → Words → Words → Words → Type 0
-Spatially-safe t inputs values bases ends =
-    call-fault t inputs (length values) (length bases) (length ends) ≡ passes
-    → Safe (count t variables) (length values) (run t inputs (length values))
+abbrev pub Spatially-safe : Words → Words → Words → Words → Words → Words → Type 0
+Spatially-safe t inputs registers values bases ends =
+    call-fault t inputs registers (length values) (length bases) (length ends) ≡ passes
+    → Safe (count t variables) (length values) (run t inputs registers (length values))
 
 -- ---- The log can be believed: what it does not have as written is not written
 
@@ -71,8 +72,8 @@ pub record Same-word (w : ℕ) (s s′ : State) : Type 0 where
   pub end : word (s .ends) w ≡ word (s′ .ends) w
 
 -- After a begun run, a word that its log does not have as written is as the run began with it.
-abbrev pub Writes-logged : Words → Words → Words → Words → Words → Type 0
-Writes-logged t inputs values bases ends =
-    call-fault t inputs (length values) (length bases) (length ends) ≡ passes
-    → (w : ℕ) → Unwritten w (run t inputs (length values) .state .log)
-    → Same-word w (begin t inputs (length values)) (run t inputs (length values) .state)
+abbrev pub Writes-logged : Words → Words → Words → Words → Words → Words → Type 0
+Writes-logged t inputs registers values bases ends =
+    call-fault t inputs registers (length values) (length bases) (length ends) ≡ passes
+    → (w : ℕ) → Unwritten w (run t inputs registers (length values) .state .log)
+    → Same-word w (begin t inputs registers (length values)) (run t inputs registers (length values) .state)

@@ -58,6 +58,7 @@ fn call(case: &Case, [values, bases, ends]: &mut Lists) -> Answer {
     machine::run(
         &case.table,
         &case.inputs,
+        &case.registers,
         &mut values[..v],
         &mut bases[..b],
         &mut ends[..e],
@@ -112,7 +113,10 @@ fn execute(samples: &[Sample], [values, bases, ends]: &mut Lists) {
         for (checked, s) in checked.iter().zip(samples) {
             let l = s.case.lengths[0] as usize;
             let (values, bases, ends) = (&mut values[..l], &mut bases[..l], &mut ends[..l]);
-            black_box(black_box(checked).execute(&s.case.inputs, values, bases, ends));
+            let Case {
+                inputs, registers, ..
+            } = &s.case;
+            black_box(black_box(checked).execute(inputs, registers, values, bases, ends));
         }
     });
     time("clearing alone", samples, || {

@@ -5,6 +5,7 @@ mod deep;
 mod expression;
 mod pointer;
 mod random;
+mod registers;
 mod routine;
 mod soup;
 mod types;
@@ -27,16 +28,21 @@ pub fn line(seed: u64, index: u64, out: &mut Vec<u8>) {
 
 /// The mixture of cases, in thousandths.
 fn case(random: &mut Random) -> Case {
-    let mut case = match random.weighted(&[640, 240, 50, 35, 15, 20]) {
+    let mut case = match random.weighted(&[570, 215, 95, 50, 35, 15, 20]) {
         0 => well_formed(random).case(),
         1 => {
             let mut case = well_formed(random).case();
             damage::damage(random, &mut case);
             case
         }
-        2 => soup::sections(random),
-        3 => soup::words(random),
-        4 => large(random),
+        2 => {
+            let mut case = well_formed(random).case();
+            damage::registers(random, &mut case);
+            case
+        }
+        3 => soup::sections(random),
+        4 => soup::words(random),
+        5 => large(random),
         _ => shuffled(random, deep::routine).case(),
     };
     if random.percent(20) {
@@ -64,9 +70,8 @@ fn shuffled(random: &mut Random, make: fn(&mut Random) -> Routine) -> Routine {
 /// A routine up to the limits of the table, sometimes damaged.
 fn large(random: &mut Random) -> Case {
     let types = Types::large(random);
-    let variables = types.variables.len() as u32;
-    let length = 1 + variables + random.between(20, 400);
-    let mut routine = Routine::new(random, types, length);
+    let room = random.between(20, 400);
+    let mut routine = Routine::new(random, types, room);
     let count = random.pick(&[40, 100, 256]);
     routine.grow(random, count);
     routine.fill(random, count);

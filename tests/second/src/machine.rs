@@ -1,18 +1,22 @@
-//! The check and the run of document 01. No input or output happens here.
+//! The check and the run of document 01, with registers handed in. No input or
+//! output happens here.
 //!
 //! [`check`] judges a table alone. [`run`] is the whole call: the check, the
-//! conditions on the call (10 and 11), then the routine. Both work in buffers
-//! that are used again from call to call; [`Machine`] lends them out one by
-//! one, so that checking and executing can also be done, and timed, apart.
+//! conditions on the call (10, 11, 13 to 15), then the routine. Both work in
+//! buffers that are used again from call to call; [`Machine`] lends them out
+//! one by one, so that checking and executing can also be done, and timed,
+//! apart.
 
 mod check;
 mod declarations;
 mod execute;
 mod layout;
+mod registers;
 
 use declarations::Declarations;
 use execute::Memory;
 use layout::{Layout, MAX_NODES};
+use registers::Registers;
 use std::cell::RefCell;
 
 /// Why a call is turned away, and where: the numbers and places of "What is
@@ -99,12 +103,13 @@ pub fn check(table: &[u32]) -> Verdict {
 pub fn run(
     table: &[u32],
     inputs: &[u32],
+    registers: &[u32],
     values: &mut [u32],
     bases: &mut [u32],
     ends: &mut [u32],
 ) -> Answer {
     MACHINE.with_borrow_mut(|machine| match machine.check(table) {
-        Ok(checked) => checked.execute(inputs, values, bases, ends),
+        Ok(checked) => checked.execute(inputs, registers, values, bases, ends),
         Err(refusal) => Answer::Refused(refusal),
     })
 }
@@ -142,23 +147,29 @@ impl Checked<'_, '_> {
     pub fn execute(
         &self,
         inputs: &[u32],
+        registers: &[u32],
         values: &mut [u32],
         bases: &mut [u32],
         ends: &mut [u32],
     ) -> Answer {
         let lengths = [values.len(), bases.len(), ends.len()];
-        if let Err(refusal) = self.admit(inputs, lengths) {
-            return Answer::Refused(refusal);
+        match self.admit(inputs, registers, lengths) {
+            Ok(registers) => {
+                let unused = begin(inputs, registers, values, bases, ends);
+                Memory::new(self, values, bases, ends, unused).execute(self.layout.commands)
+            }
+            Err(refusal) => Answer::Refused(refusal),
         }
-        values.fill(0);
-        bases.fill(0);
-        ends.fill(0);
-        values[1..=inputs.len()].copy_from_slice(inputs);
-        Memory::new(self, values, bases, ends).execute(self.layout.commands)
     }
 
-    /// Conditions 10 and 11, in this order.
-    fn admit(&self, inputs: &[u32], lengths: [usize; 3]) -> Result<(), Refusal> {
+    /// Conditions 10, 11 and 13 to 15, in this order.
+    #[inline(always)]
+    fn admit<'r>(
+        &self,
+        inputs: &[u32],
+        registers: &'r [u32],
+        lengths: [usize; 3],
+    ) -> Result<Registers<'r>, Refusal> {
         let variables = self.layout.variables;
         let [length, bases, ends] = lengths;
         // "the length isn't from 1 + variables to 65,536"
@@ -172,7 +183,38 @@ impl Checked<'_, '_> {
         let mut pairs = variables.iter().zip(inputs);
         match pairs.position(|(&typ, &input)| typ != u32::from(INT) && input != 0) {
             Some(pointer) => Err(Refusal::new(11, pointer)),
-            None => Ok(()),
+            None => Registers::of(registers, variables, length),
         }
     }
+}
+
+/// Memory as it is before the first command: word 0, the inputs, the registers,
+/// and clear words from U on, which is given back. Each value is written once.
+#[inline(always)]
+fn begin(
+    inputs: &[u32],
+    registers: Registers,
+    values: &mut [u32],
+    bases: &mut [u32],
+    ends: &mut [u32],
+) -> u32 {
+    bases.fill(0);
+    ends.fill(0);
+    let mut unused = 1 + inputs.len();
+    values[0] = 0;
+    values[1..unused].copy_from_slice(inputs);
+    for (variable, words) in registers {
+        let base = unused;
+        unused += words.len();
+        values[base..unused].copy_from_slice(words);
+        // With no words it "starts as 0 without bounds", as its input has it.
+        if !words.is_empty() {
+            let w = 1 + variable as usize;
+            values[w] = base as u32;
+            bases[w] = base as u32;
+            ends[w] = unused as u32;
+        }
+    }
+    values[unused..].fill(0);
+    unused as u32
 }

@@ -14,6 +14,7 @@ use crate::machine::{self, Answer, Refusal, Verdict};
 const MAX_LIST: u32 = 65_537;
 const MAX_BLOCKS: u32 = 200;
 const MAX_INPUTS: u32 = 100;
+const MAX_REGISTERS: u32 = 70_000;
 const MAX_TABLE: u32 = 4_000;
 /// Every word of a lent list arrives with this.
 const LENT: u32 = 7;
@@ -25,7 +26,7 @@ pub enum Call {
     Check,
 }
 
-/// One case of the base: LIGHT and NR are 0, and LK tells nothing.
+/// One case: LIGHT is 0, and LK tells nothing.
 #[derive(Clone, Debug, Default, PartialEq, Eq)]
 pub struct Case {
     pub call: Call,
@@ -34,6 +35,8 @@ pub struct Case {
     /// LK, read and not used.
     pub blocks: u32,
     pub inputs: Vec<u32>,
+    /// The words of the register list, its count included.
+    pub registers: Vec<u32>,
     pub table: Vec<u32>,
 }
 
@@ -53,7 +56,7 @@ impl Case {
         }
         self.blocks = numbers.up_to(MAX_BLOCKS)?;
         numbers.list(MAX_INPUTS, &mut self.inputs)?;
-        numbers.up_to(0)?; // NR
+        numbers.list(MAX_REGISTERS, &mut self.registers)?;
         numbers.list(MAX_TABLE, &mut self.table)?;
         numbers.finished()
     }
@@ -69,11 +72,10 @@ impl Case {
         for number in [0, values, bases, ends, self.blocks] {
             write_next(out, number);
         }
-        write_next(out, self.inputs.len() as u32);
-        self.inputs.iter().for_each(|&word| write_next(out, word));
-        write_next(out, 0);
-        write_next(out, self.table.len() as u32);
-        self.table.iter().for_each(|&word| write_next(out, word));
+        for list in [&self.inputs, &self.registers, &self.table] {
+            write_next(out, list.len() as u32);
+            list.iter().for_each(|&word| write_next(out, word));
+        }
         out.push(b'\n');
     }
 }
@@ -166,6 +168,7 @@ impl Answerer {
         let Case {
             lengths,
             inputs,
+            registers,
             table,
             ..
         } = &self.case;
@@ -173,7 +176,7 @@ impl Answerer {
         let values = lend(values, lengths[0]);
         let bases = lend(bases, lengths[1]);
         let ends = lend(ends, lengths[2]);
-        let answer = machine::run(table, inputs, values, bases, ends);
+        let answer = machine::run(table, inputs, registers, values, bases, ends);
         if let Answer::Refused(refusal) = answer {
             write_refusal(out, refusal);
             let lent = [&*values, &*bases, &*ends];

@@ -1,54 +1,14 @@
 //! The examples of document 01: "What is turned away", "Routine A" and "Runs
 //! to compare".
 
+mod ran;
+
+use ran::{abort, done, no_room, words, Ran};
 use second::machine::{check, run, Answer, Refusal, Verdict};
 
-/// A run on lists of `length` words, each lent with 7 in every word.
-struct Ran {
-    answer: Answer,
-    values: Vec<u32>,
-    bases: Vec<u32>,
-    ends: Vec<u32>,
-}
-
-impl Ran {
-    fn new(table: &[u32], inputs: &[u32], length: usize) -> Ran {
-        let lent = || vec![7; length];
-        let (mut values, mut bases, mut ends) = (lent(), lent(), lent());
-        let answer = run(table, inputs, &mut values, &mut bases, &mut ends);
-        Ran {
-            answer,
-            values,
-            bases,
-            ends,
-        }
-    }
-
-    fn word(&self, word: usize) -> [u32; 3] {
-        [self.values[word], self.bases[word], self.ends[word]]
-    }
-
-    fn untouched(&self) -> bool {
-        let lists = [&self.values, &self.bases, &self.ends];
-        lists.iter().all(|list| list.iter().all(|&word| word == 7))
-    }
-}
-
-fn done(unused: u32) -> Answer {
-    Answer::Done { unused }
-}
-
-fn abort(command: u32, unused: u32) -> Answer {
-    Answer::Abort { command, unused }
-}
-
-fn no_room(command: u32, unused: u32) -> Answer {
-    Answer::NoRoom { command, unused }
-}
-
-fn words(text: &str) -> Vec<u32> {
-    let numbers = text.split_whitespace().filter(|&word| word != "|");
-    numbers.map(|word| word.parse().unwrap()).collect()
+/// A run with the list `0`.
+fn without_registers(table: &[u32], inputs: &[u32], length: usize) -> Ran {
+    Ran::new(table, inputs, &[0], length)
 }
 
 /// The check refuses the table so, and a run of it does too.
@@ -56,7 +16,7 @@ fn refused(text: &str, number: u32, place: usize) {
     let table = words(text);
     let refusal = Refusal { number, place };
     assert_eq!(check(&table), Verdict::Refused(refusal), "{text}");
-    let ran = Ran::new(&table, &[], 8);
+    let ran = without_registers(&table, &[], 8);
     assert_eq!(ran.answer, Answer::Refused(refusal), "{text}");
     assert!(ran.untouched(), "{text}");
 }
@@ -82,17 +42,17 @@ fn refusals_of_the_call() {
         place: 0,
     });
     assert_eq!(check(&none), Verdict::Pass);
-    assert_eq!(Ran::new(&none, &[], 0).answer, ten);
+    assert_eq!(without_registers(&none, &[], 0).answer, ten);
     let one = words("0 0 0 1 1 0 0");
-    let ran = Ran::new(&one, &[5], 4);
+    let ran = without_registers(&one, &[5], 4);
     let eleven = |place| Answer::Refused(Refusal { number: 11, place });
     assert_eq!(ran.answer, eleven(0));
     assert!(ran.untouched());
-    assert_eq!(Ran::new(&one, &[], 4).answer, eleven(1));
-    assert_eq!(Ran::new(&one, &[0, 0], 4).answer, eleven(1));
-    assert_eq!(Ran::new(&one, &[5], 1).answer, ten);
-    assert_eq!(Ran::new(&one, &[0], 65_536).answer, done(2));
-    assert_eq!(Ran::new(&one, &[0], 65_537).answer, ten);
+    assert_eq!(without_registers(&one, &[], 4).answer, eleven(1));
+    assert_eq!(without_registers(&one, &[0, 0], 4).answer, eleven(1));
+    assert_eq!(without_registers(&one, &[5], 1).answer, ten);
+    assert_eq!(without_registers(&one, &[0], 65_536).answer, done(2));
+    assert_eq!(without_registers(&one, &[0], 65_537).answer, ten);
 }
 
 #[test]
@@ -100,7 +60,7 @@ fn lists_of_differing_length() {
     let none = words("0 0 0 0 0 0");
     for lengths in [[2, 3, 3], [3, 2, 3], [3, 3, 2], [3, 3, 0]] {
         let [mut values, mut bases, mut ends] = lengths.map(|length| vec![7; length]);
-        let answer = run(&none, &[], &mut values, &mut bases, &mut ends);
+        let answer = run(&none, &[], &[0], &mut values, &mut bases, &mut ends);
         let refusal = Refusal {
             number: 10,
             place: 0,
@@ -145,7 +105,7 @@ const ROUTINE_A: &str = "1 2 | 2 0 2 0 2 | 2 65536 0 | 2 2 3 | 22 1 0 0 9 65536 
 
 #[test]
 fn routine_a() {
-    let ran = Ran::new(&words(ROUTINE_A), &[0, 0], 16);
+    let ran = without_registers(&words(ROUTINE_A), &[0, 0], 16);
     assert_eq!(ran.answer, abort(4, 7));
     let memory: Vec<_> = (1..7).map(|word| ran.word(word)).collect();
     let expected = [
@@ -236,7 +196,7 @@ impl Routine {
         table.extend(&self.nodes);
         table.push(self.commands.len() as u32 / 2);
         table.extend(&self.commands);
-        Ran::new(&table, &[0], 4)
+        without_registers(&table, &[0], 4)
     }
 }
 
@@ -246,7 +206,7 @@ fn m() -> Routine {
 
 #[test]
 fn nothing_at_all() {
-    let ran = Ran::new(&[0; 6], &[], 1);
+    let ran = without_registers(&[0; 6], &[], 1);
     assert_eq!(ran.answer, done(1));
     assert_eq!(ran.word(0), [0; 3]);
 }
@@ -307,7 +267,7 @@ fn int_store_over_a_pointer_keeps_its_bounds() {
     table.extend(&routine.nodes);
     table.push(3);
     table.extend(&routine.commands);
-    let ran = Ran::new(&table, &[0], 4);
+    let ran = without_registers(&table, &[0], 4);
     assert_eq!((ran.answer, ran.values[3]), (done(4), 8));
     assert_eq!(ran.word(1), [3, 2, 4]);
 }
@@ -344,7 +304,7 @@ fn record_over_a_short_block() {
     let block = "1 0 0 4 2 0 10 1 0 8 2 2";
     for (field, answer) in [(0, done(5)), (1, abort(1, 5))] {
         let text = format!("{head} 9 {block} 1 1 0 1 0 0 6 5 0 3 6 {field} 7 7 0 | 2 0 3 4 8");
-        let ran = Ran::new(&words(&text), &[0, 0], 8);
+        let ran = without_registers(&words(&text), &[0, 0], 8);
         assert_eq!(ran.answer, answer);
         if field == 0 {
             assert_eq!(ran.word(2), [3, 3, 5]);
@@ -386,7 +346,7 @@ fn sums_of_checks_are_exact() {
     for (n, field) in [(u32::MAX, 0), (u32::MAX - 2, 0), (u32::MAX - 5, 1)] {
         let text =
             format!("{head} 10 {block} 1 0 0 6 4 0 4 {n} 0 5 5 6 3 7 {field} 4 1 0 | 2 0 3 8 9");
-        let ran = Ran::new(&words(&text), &[0], 8);
+        let ran = without_registers(&words(&text), &[0], 8);
         assert_eq!(ran.answer, abort(1, 6));
     }
 }

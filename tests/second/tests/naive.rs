@@ -1,5 +1,5 @@
-//! The machine once more, as plainly as document 01 says it and as slow as
-//! that is, against the fast one on random cases.
+//! The machine once more, as plainly as document 01 and request 1 say it and as
+//! slow as that is, against the fast one on random cases.
 
 use second::generate;
 use second::machine::{self, Answer, Refusal, Verdict};
@@ -320,6 +320,20 @@ impl Run<'_> {
         }
     }
 
+    /// A register becomes the next block, and its variable points to it.
+    fn hand_in(&mut self, register: &Register) {
+        let base = self.unused;
+        for &word in &register.words {
+            self.cells[self.unused as usize][0] = u64::from(word);
+            self.unused += 1;
+        }
+        let variable = 1 + register.variable as usize;
+        self.cells[variable] = match register.words.is_empty() {
+            true => [0; 3],
+            false => [base, base, self.unused],
+        };
+    }
+
     fn malloc(&mut self, n: u64) -> Result<Cell, Stop> {
         if n == 0 {
             return Ok([0; 3]);
@@ -365,27 +379,35 @@ impl Run<'_> {
 
 /// The answer of a call, and the memory a begun run leaves.
 fn call(case: &Case) -> (Answer, Vec<Cell>) {
-    let table = match Table::check(&case.table) {
-        Ok(table) => table,
-        Err(refusal) => return (Answer::Refused(refusal), Vec::new()),
-    };
-    let variables = table.counts[3];
-    if let Err(refusal) = admit(case, &table, variables) {
-        return (Answer::Refused(refusal), Vec::new());
+    match begun(case) {
+        Ok(ending) => ending,
+        Err(refusal) => (Answer::Refused(refusal), Vec::new()),
     }
+}
+
+fn begun(case: &Case) -> Found<(Answer, Vec<Cell>)> {
+    let table = Table::check(&case.table)?;
+    admit(case, &table)?;
+    let registers = registers(&case.registers)?;
+    known_pointers(&registers, &table)?;
+    have_room(&registers, &table, case.lengths[0])?;
     let mut run = Run {
         cells: vec![[0; 3]; case.lengths[0] as usize],
-        unused: 1 + variables as u64,
+        unused: 1 + table.counts[3] as u64,
         table: &table,
     };
     for (i, &input) in case.inputs.iter().enumerate() {
         run.cells[1 + i][0] = u64::from(input);
     }
+    for register in registers {
+        run.hand_in(&register);
+    }
     let answer = run.all();
-    (answer, run.cells)
+    Ok((answer, run.cells))
 }
 
-fn admit(case: &Case, table: &Table, variables: usize) -> Found<()> {
+fn admit(case: &Case, table: &Table) -> Found<()> {
+    let variables = table.counts[3];
     let [values, bases, ends] = case.lengths.map(|length| length as usize);
     if values != bases || bases != ends || values < 1 + variables || values > 65_536 {
         return refuse(10, 0);
@@ -396,6 +418,70 @@ fn admit(case: &Case, table: &Table, variables: usize) -> Found<()> {
     for (i, &input) in case.inputs.iter().enumerate() {
         if table.word(3, i, 0) != 0 && input != 0 {
             return refuse(11, i);
+        }
+    }
+    Ok(())
+}
+
+struct Register {
+    /// Place of the variable word in the list; the length word is next.
+    at: usize,
+    variable: u32,
+    words: Vec<u32>,
+}
+
+/// The list taken apart: refusal 13.
+fn registers(list: &[u32]) -> Found<Vec<Register>> {
+    let length = list.len();
+    if length == 0 {
+        return refuse(13, length);
+    }
+    if list[0] > 16 {
+        return refuse(13, 0);
+    }
+    let mut registers = Vec::new();
+    let mut at = 1;
+    for _ in 0..list[0] {
+        if at + 2 > length {
+            return refuse(13, length);
+        }
+        let end = at + 2 + list[at + 1] as usize;
+        if end > length {
+            return refuse(13, length);
+        }
+        registers.push(Register {
+            at,
+            variable: list[at],
+            words: list[at + 2..end].to_vec(),
+        });
+        at = end;
+    }
+    if at < length {
+        return refuse(13, at);
+    }
+    Ok(registers)
+}
+
+/// Refusal 14.
+fn known_pointers(registers: &[Register], table: &Table) -> Found<()> {
+    for (i, register) in registers.iter().enumerate() {
+        let variable = register.variable as usize;
+        let unknown = variable >= table.counts[3];
+        let before = registers[..i].iter().map(|r| r.variable);
+        let named = before.into_iter().any(|v| v == register.variable);
+        if unknown || table.word(3, variable, 0) == 0 || named {
+            return refuse(14, register.at);
+        }
+    }
+    Ok(())
+}
+
+/// Refusal 15.
+fn have_room(registers: &[Register], table: &Table, length: u32) -> Found<()> {
+    for (i, register) in registers.iter().enumerate() {
+        let words: usize = registers[..=i].iter().map(|r| r.words.len()).sum();
+        if 1 + table.counts[3] + words > length as usize {
+            return refuse(15, register.at + 1);
         }
     }
     Ok(())
@@ -414,6 +500,7 @@ fn compare(case: &Case, line: &str) {
     let answer = machine::run(
         &case.table,
         &case.inputs,
+        &case.registers,
         &mut values,
         &mut bases,
         &mut ends,

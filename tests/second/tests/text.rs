@@ -11,64 +11,84 @@ fn answer(line: &str) -> String {
 
 #[test]
 fn endings() {
-    assert_eq!(answer("0 0 1 1 1 0 0 0 6 0 0 0 0 0 0"), "done 1 ; -");
-    assert_eq!(answer("1 0 1 1 1 0 0 0 6 0 0 0 0 0 0"), "pass");
-    assert_eq!(answer("0 0 0 0 0 0 0 0 6 0 0 0 0 0 0"), "refused 10 0");
-    assert_eq!(answer("1 0 0 0 0 0 0 0 1 33"), "refused 3 0");
-    let m = "0 0 L L L 0 1 0 0 22 0 0 1 0 1 2 4 1 0 0 4 2 0 10 1 0 8 2 2 1 0 3";
+    assert_eq!(answer("0 0 1 1 1 0 0 1 0 6 0 0 0 0 0 0"), "done 1 ; -");
+    assert_eq!(answer("1 0 1 1 1 0 0 1 0 6 0 0 0 0 0 0"), "pass");
+    assert_eq!(answer("0 0 0 0 0 0 0 1 0 6 0 0 0 0 0 0"), "refused 10 0");
+    assert_eq!(answer("1 0 0 0 0 0 0 1 0 1 33"), "refused 3 0");
+    let m = "0 0 L L L 0 1 0 1 0 22 0 0 1 0 1 2 4 1 0 0 4 2 0 10 1 0 8 2 2 1 0 3";
     assert_eq!(answer(&m.replace('L', "5")), "done 4 ; 2:2:4 0:0:0 0:0:0");
     assert_eq!(answer(&m.replace('L', "3")), "noroom 0 2 ; 0:0:0");
     // `*(int*)0 = 1`
-    let forged = "0 0 3 3 3 0 0 0 21 0 0 1 0 0 4 4 0 0 8 0 2 2 1 0 4 1 0 1 2 3";
+    let forged = "0 0 3 3 3 0 0 1 0 21 0 0 1 0 0 4 4 0 0 8 0 2 2 1 0 4 1 0 1 2 3";
     assert_eq!(answer(forged), "abort 0 1 ; -");
+}
+
+#[test]
+fn registers() {
+    // One variable, pointer to void, and no commands.
+    let line = |list: &str| answer(&format!("0 0 5 5 5 0 1 0 {list} 7 0 0 0 1 1 0 0"));
+    assert_eq!(line("1 0"), "done 2 ; 0:0:0");
+    assert_eq!(line("5 1 0 2 8 9"), "done 4 ; 2:2:4 8:0:0 9:0:0");
+    assert_eq!(line("0"), "refused 13 0");
+    assert_eq!(line("3 1 0 4294967295"), "refused 13 3");
+    assert_eq!(line("3 1 1 0"), "refused 14 1");
+    assert_eq!(line("7 1 0 4 8 8 8 8"), "refused 15 2");
+    // The check alone takes no notice of the list.
+    assert_eq!(answer("1 0 5 5 5 0 1 0 0 7 0 0 0 1 1 0 0"), "pass");
 }
 
 #[test]
 fn lists_at_their_most() {
     let zeros = "0 ".repeat(100);
-    let inputs = format!("0 0 65537 65537 65537 200 100 {zeros}0 6 0 0 0 0 0 0");
+    let inputs = format!("0 0 65537 65537 65537 200 100 {zeros}1 0 6 0 0 0 0 0 0");
     assert_eq!(answer(&inputs), "refused 10 0");
+    let zeros = "0 ".repeat(70_000);
+    let registers = format!("0 0 1 1 1 0 0 70000 {zeros}6 0 0 0 0 0 0");
+    assert_eq!(answer(&registers), "refused 13 1");
     let table = format!("1 0 0 0 0 0 0 0 4000{}", " 0".repeat(4_000));
     assert_eq!(answer(&table), "refused 2 6");
 }
 
 #[test]
 fn leading_zeros_are_allowed() {
-    let line = "00 0 001 1 00000000000000000001 0 0 0 06 0 0 000 0 0 0";
+    let line = "00 0 001 1 00000000000000000001 0 0 01 00 06 0 0 000 0 0 0";
     assert_eq!(answer(line), "done 1 ; -");
 }
 
 #[test]
 fn no_case() {
-    let good = "0 0 1 1 1 0 0 0 6 0 0 0 0 0 0";
+    let good = "0 0 1 1 1 0 0 1 0 6 0 0 0 0 0 0";
     let mut wrong: Vec<String> = [
         "",
         " ",
         "x",
-        "2 0 1 1 1 0 0 0 6 0 0 0 0 0 0",
-        "0 1 1 1 1 0 0 0 6 0 0 0 0 0 0",
-        "0 0 65538 1 1 0 0 0 6 0 0 0 0 0 0",
-        "0 0 1 65538 1 0 0 0 6 0 0 0 0 0 0",
-        "0 0 1 1 65538 0 0 0 6 0 0 0 0 0 0",
-        "0 0 1 1 1 201 0 0 6 0 0 0 0 0 0",
-        "0 0 1 1 1 0 0 1 6 0 0 0 0 0 0",
-        "0 0 1 1 1 0 0 0 5 0 0 0 0 0 0",
-        "0 0 1 1 1 0 0 0 7 0 0 0 0 0 0",
-        "0 0 1 1 1 0 0 0 6 0 0 0 0 0 4294967296",
-        "0 0 1 1 1 0 0 0 6 0 0 0 0 0 99999999999999999999999",
-        "0 0 1 1 1 0 0 0 6 0 0 0 0 0 -1",
-        "0 0 1 1 1 0 0 0 6 0 0 0 0 0 +1",
-        "0 0 1 1 1 0 0 0 6 0 0  0 0 0 0",
-        "0 0 1 1 1 0 0 0 6 0 0\t0 0 0 0",
-        "0 0 1 1 1 0 0 0",
+        "2 0 1 1 1 0 0 1 0 6 0 0 0 0 0 0",
+        "0 1 1 1 1 0 0 1 0 6 0 0 0 0 0 0",
+        "0 0 65538 1 1 0 0 1 0 6 0 0 0 0 0 0",
+        "0 0 1 65538 1 0 0 1 0 6 0 0 0 0 0 0",
+        "0 0 1 1 65538 0 0 1 0 6 0 0 0 0 0 0",
+        "0 0 1 1 1 201 0 1 0 6 0 0 0 0 0 0",
+        "0 0 1 1 1 0 0 2 0 6 0 0 0 0 0 0",
+        "0 0 1 1 1 0 0 1 0 5 0 0 0 0 0 0",
+        "0 0 1 1 1 0 0 1 0 7 0 0 0 0 0 0",
+        "0 0 1 1 1 0 0 1 0 6 0 0 0 0 0 4294967296",
+        "0 0 1 1 1 0 0 1 0 6 0 0 0 0 0 99999999999999999999999",
+        "0 0 1 1 1 0 0 1 0 6 0 0 0 0 0 -1",
+        "0 0 1 1 1 0 0 1 0 6 0 0 0 0 0 +1",
+        "0 0 1 1 1 0 0 1 0 6 0 0  0 0 0 0",
+        "0 0 1 1 1 0 0 1 0 6 0 0\t0 0 0 0",
+        "0 0 1 1 1 0 0 4",
+        "0 0 1 1 1 0 0 1 0",
         "0 0 1 1 1 0 1 0 6 0 0 0 0 0 0",
     ]
     .map(String::from)
     .to_vec();
     wrong.extend([" ", "\r", " 0", "x"].map(|end| format!("{good}{end}")));
     wrong.push(format!(" {good}"));
-    wrong.push(format!("1 0 0 0 0 0 101{} 0 0", " 0".repeat(101)));
-    wrong.push(format!("1 0 0 0 0 0 0 0 4001{}", " 0".repeat(4_001)));
+    let zeros = |count| " 0".repeat(count);
+    wrong.push(format!("1 0 0 0 0 0 101{} 0 0", zeros(101)));
+    wrong.push(format!("1 0 0 0 0 0 0 70001{} 0", zeros(70_001)));
+    wrong.push(format!("1 0 0 0 0 0 0 0 4001{}", zeros(4_001)));
     for line in wrong {
         assert_eq!(answer(&line), "case", "{line}");
     }

@@ -3,18 +3,15 @@ use Prim.Native.Nat.{_≤_, _-_}
 use mathlib.Core.Path.{_≡_, refl}
 use native.Mathlib.Omega.{arith}
 use borrow.Author.Needs.{needs}
-use mathlib.Core.List.{[]}
 use lib.ListN.{length}
 use Rattle.semantics.specs.Words.{word}
-use Rattle.steps.specs.Answers.{state-of}
-use Rattle.commands.specs.Command.{lists}
 use Rattle.commands.proofs.Execution.{So-far, none-yet, all-done, command-words, command-ready, command-goes-on, command-aborts, command-full}
 use Rattle.commands.proofs.execute.Statement.{statement}
 use Rattle.commands.proofs.execute.Tie as tie
 
 abbrev Inv-loop : tie.InvT-loop
 Inv-loop t at total l first values₀ bases₀ ends₀ s₀ c₀ values bases ends s c =
-    (c ≤ total) × So-far t (state-of (lists values₀ bases₀ ends₀) first []) values bases ends (word s 2) c × (length s ≡ 3) × (length values ≡ length values₀) × (length bases ≡ length bases₀) × (length ends ≡ length ends₀)
+    (c ≤ total) × So-far t values₀ bases₀ ends₀ first values bases ends (word s 2) c × (length s ≡ 3) × (length values ≡ length values₀) × (length bases ≡ length bases₀) × (length ends ≡ length ends₀)
 
 abbrev μ-loop : tie.MeasureT-loop
 μ-loop t at total l first values₀ bases₀ ends₀ s₀ c₀ values bases ends s c = total - c

@@ -1,5 +1,5 @@
 -- `replay::answer_numbers` is safe: the table of a case starts within its numbers. Assumes nothing.
-use Prim.Native.Nat.{ℕ, _≤_}
+use Prim.Native.Nat.{ℕ, _≤_, _<_}
 use mathlib.Core.List.{List}
 use mathlib.Core.Path.{_≡_}
 use native.Mathlib.Omega.{arith}
@@ -11,26 +11,26 @@ use Rattle.replay.specs.declared.Case.the-variants.{Run, Check}
 use Rattle.replay.proofs.answer_numbers.Statement.{statement}
 use Rattle.replay.proofs.answer_numbers.Tie as tie
 
-module _ (numbers : List ℕ) (r : Case) (from : ℕ) (h : Parsed numbers r) where
-  of-run : r ≡ Run from → (9 ≤ from) × (from ≤ length numbers)
-  of-run e = rw e at h
+module _ (numbers : List ℕ) (r : Case) (h : Parsed numbers r) where
+  of-run : (list from : ℕ) → r ≡ Run list from → (8 ≤ list) × (list < from) × (from ≤ length numbers)
+  of-run list from e = rw e at h
 
-  of-check : r ≡ Check from → (9 ≤ from) × (from ≤ length numbers)
-  of-check e = rw e at h
+  of-check : (from : ℕ) → r ≡ Check from → (9 ≤ from) × (from ≤ length numbers)
+  of-check from e = rw e at h
 
 run-case-requires : tie.Need-run-case-requires
 run-case-requires c κs =
     let f = c .before .before .before .before .before in
-    of-run _ _ _ (f .before .before .of .ensures) (f .from .given .1)
+    of-run _ _ (f .before .before .of .ensures) _ _ (f .list .given .1)
 
 mul-check-case : tie.Need-mul-check-case
-mul-check-case c = let b = of-check _ _ _ (c .before .before .before .of .ensures) (c .before .from2 .given .1) in search needs
+mul-check-case c = let b = of-check _ _ (c .before .before .before .of .ensures) _ (c .before .from .given .1) in search needs
 
 sub-check-case : tie.Need-sub-check-case
-sub-check-case c = let b = of-check _ _ _ (c .before .before .before .of .ensures) (c .before .from2 .given .1) in search needs
+sub-check-case c = let b = of-check _ _ (c .before .before .before .of .ensures) _ (c .before .from .given .1) in search needs
 
 part-check-case-start : tie.Need-part-check-case-start
-part-check-case-start c = let b = of-check _ _ _ (c .before .before .before .of .ensures) (c .before .from2 .given .1) in search needs
+part-check-case-start c = let b = of-check _ _ (c .before .before .before .of .ensures) _ (c .before .from .given .1) in search needs
 
 pub answer-numbers-spec : {M : Type 1} → statement M
 answer-numbers-spec =

@@ -1,6 +1,8 @@
 //! Harm done to good cases, so that each refusal is met often, and often
 //! together with another, which tells the order in which they are looked for.
 
+mod list;
+
 use super::random::Random;
 use super::types::RECORD;
 use crate::machine::kind;
@@ -30,6 +32,11 @@ impl Sections {
         sections
     }
 
+    /// The types of the variables.
+    fn variables(&self, table: &[u32]) -> Vec<u32> {
+        table[self.starts[3] + 1..][..self.counts[3] as usize].to_vec()
+    }
+
     /// The place of one word of a random entry, or none in an empty section.
     fn word(&self, random: &mut Random, section: usize, word: usize) -> Option<usize> {
         let count = self.counts[section];
@@ -47,18 +54,33 @@ pub fn damage(random: &mut Random, case: &mut Case) {
     let times = 1 + random.weighted(&[60, 28, 12]);
     // Changes that move words come last: others rely on the places.
     let mut cut = false;
+    let mut list = false;
     for _ in 0..times {
-        match random.weighted(&[36, 44, 20, 10, 30, 24]) {
+        match random.weighted(&[36, 44, 20, 10, 30, 24, 12]) {
             0 => declarations(random, case, &sections),
             1 => nodes(random, case, &sections),
             2 => commands(random, case, &sections),
             3 => anywhere(random, case),
             4 => call(random, case, &sections),
-            _ => cut = true,
+            5 => cut = true,
+            _ => list = true,
         }
+    }
+    if list {
+        list::damage(random, case, &sections.variables(&case.table));
     }
     if cut {
         lengths(random, case, &sections);
+    }
+}
+
+/// Damages the registers of a good case, and now and then the call's other
+/// conditions with them.
+pub fn registers(random: &mut Random, case: &mut Case) {
+    let sections = Sections::of(&case.table);
+    list::damage(random, case, &sections.variables(&case.table));
+    if random.percent(10) {
+        call(random, case, &sections);
     }
 }
 
@@ -221,9 +243,8 @@ fn call(random: &mut Random, case: &mut Case, sections: &Sections) {
             case.inputs.extend((0..more).map(|_| random.number()));
         }
         _ => {
-            let start = sections.starts[3] + 1;
-            let types = &case.table[start..][..variables as usize];
-            for (input, &typ) in case.inputs.iter_mut().zip(types) {
+            let types = sections.variables(&case.table);
+            for (input, typ) in case.inputs.iter_mut().zip(types) {
                 if typ != 0 && random.percent(50) {
                     *input = random.number();
                 }

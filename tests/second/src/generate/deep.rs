@@ -14,18 +14,15 @@ pub fn routine(random: &mut Random) -> Routine {
         pointers: vec![INT],
         variables: vec![POINTER, INT, VOID_POINTER],
     };
-    let length = random.between(4, 40);
-    let mut routine = Routine::new(random, types, length);
+    let room = random.below(37);
+    let routine = Routine::new(random, types, room);
     let goal = random.pick(&[40, 100, 300, 480, 505]);
     let mut deep = Deep { routine, random };
-    let words = deep.random.between(1, 6);
-    let first = deep.constant(words);
-    let first = deep.node(kind::MALLOC, first, 0);
-    let value = deep.node(kind::CAST, first, POINTER);
-    deep.assign(0, value);
+    if !deep.has_register() || deep.random.percent(30) {
+        deep.block();
+    }
     deep.chain(goal);
-    routine = deep.routine;
-    routine
+    deep.routine
 }
 
 struct Deep<'r> {
@@ -46,6 +43,21 @@ impl Deep<'_> {
     fn read(&mut self, variable: u32) -> u32 {
         let place = self.node(kind::VARIABLE, variable, 0);
         self.node(kind::READ, place, 0)
+    }
+
+    /// Whether the pointer starts at a register.
+    fn has_register(&self) -> bool {
+        let [_, _, ends] = &self.routine.memory;
+        ends[1] != 0
+    }
+
+    /// A block for the pointer.
+    fn block(&mut self) {
+        let words = self.random.between(1, 6);
+        let first = self.constant(words);
+        let first = self.node(kind::MALLOC, first, 0);
+        let value = self.node(kind::CAST, first, POINTER);
+        self.assign(0, value);
     }
 
     /// The nodes of the place are made last, and the place is still worked

@@ -7,6 +7,7 @@
 
 use super::expression::Expressions;
 use super::random::Random;
+use super::registers;
 use super::types::Types;
 use crate::machine::{self, kind, Answer};
 use crate::text::{Call, Case};
@@ -24,6 +25,7 @@ pub struct Routine {
     pub nodes: Vec<[u32; 3]>,
     pub commands: Vec<[u32; 2]>,
     pub inputs: Vec<u32>,
+    pub registers: Vec<u32>,
     pub length: u32,
     /// Memory and U as the commands so far leave them.
     pub memory: [Vec<u32>; 3],
@@ -35,11 +37,16 @@ const MAX_NODES: usize = 512;
 const MAX_COMMANDS: usize = 256;
 
 impl Routine {
-    pub fn new(random: &mut Random, types: Types, length: u32) -> Routine {
+    /// No commands yet, and `room` words beside the variables and registers.
+    pub fn new(random: &mut Random, types: Types, room: u32) -> Routine {
         let inputs = types.variables.iter();
         let inputs = inputs.map(|&t| if t == 0 { random.number() } else { 0 });
+        let inputs: Vec<u32> = inputs.collect();
+        let registers = registers::list(random, &types);
+        let length = registers::memory(inputs.len() as u32, &registers, room);
         let mut routine = Routine {
-            inputs: inputs.collect(),
+            inputs,
+            registers,
             types,
             nodes: Vec::new(),
             commands: Vec::new(),
@@ -60,8 +67,7 @@ impl Routine {
             2 => random.between(40, 300),
             _ => random.pick(&[1_000, 4_096, 60_000]),
         };
-        let length = 1 + types.variables.len() as u32 + room;
-        let mut routine = Routine::new(random, types, length);
+        let mut routine = Routine::new(random, types, room);
         let commands = random.weighted(&[4, 6, 8, 10, 10, 10, 10, 9, 8, 7, 6, 5, 4, 3]);
         routine.grow(random, commands);
         let wanted = random.pick(&[Wanted::Done, Wanted::Abort, Wanted::NoRoom]);
@@ -141,7 +147,7 @@ impl Routine {
             .iter_mut()
             .for_each(|list| list.resize(length, 0));
         let [values, bases, ends] = &mut self.memory;
-        let answer = machine::run(&table, &self.inputs, values, bases, ends);
+        let answer = machine::run(&table, &self.inputs, &self.registers, values, bases, ends);
         let (wanted, unused) = match answer {
             Answer::Done { unused } => (Wanted::Done, unused),
             Answer::Abort { unused, .. } => (Wanted::Abort, unused),
@@ -177,6 +183,7 @@ impl Routine {
             lengths: [self.length; 3],
             blocks: 0,
             inputs: self.inputs.clone(),
+            registers: self.registers.clone(),
             table: self.table(),
         }
     }

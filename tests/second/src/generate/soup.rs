@@ -1,6 +1,7 @@
 //! Tables made with little or no regard for the check.
 
 use super::random::Random;
+use super::registers;
 use crate::machine::kind;
 use crate::text::{Call, Case};
 
@@ -60,7 +61,24 @@ fn case(random: &mut Random, table: Vec<u32>) -> Case {
         lengths: [length; 3],
         blocks: 0,
         inputs: inputs.collect(),
+        registers: list(random),
         table,
+    }
+}
+
+/// No registers, some whose variables may not be there, or any small words.
+fn list(random: &mut Random) -> Vec<u32> {
+    match random.weighted(&[60, 25, 15]) {
+        0 => vec![0],
+        1 => {
+            let mut list = vec![random.between(1, 2)];
+            for _ in 0..list[0] {
+                let (variable, length) = (random.below(3), random.below(4));
+                registers::push(random, &mut list, variable, length);
+            }
+            list
+        }
+        _ => (0..random.below(8)).map(|_| random.below(4)).collect(),
     }
 }
 

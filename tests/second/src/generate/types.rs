@@ -19,7 +19,11 @@ impl Types {
     pub fn small(random: &mut Random) -> Types {
         let records = random.weighted(&[20, 35, 25, 12, 8]);
         let pointers = random.between(1, 7) as usize;
-        let variables = random.weighted(&[2, 14, 22, 22, 18, 12, 10]);
+        let variables = match random.percent(6) {
+            // Enough to name in as many registers as there can be.
+            true => random.between(12, 28) as usize,
+            false => random.weighted(&[2, 14, 22, 22, 18, 12, 10]),
+        };
         Types::with(random, [records, pointers, variables], 4)
     }
 
@@ -69,6 +73,11 @@ impl Types {
     pub fn record(&self, typ: u32) -> Option<usize> {
         let record = self.target(typ)?.checked_sub(RECORD)?;
         Some(record as usize)
+    }
+
+    /// How many words a record has.
+    pub fn size(&self, record: usize) -> u32 {
+        self.records[record].iter().map(|&[_, words]| words).sum()
     }
 
     /// Variables of a type.

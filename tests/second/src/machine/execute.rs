@@ -42,6 +42,7 @@ impl<'m> Memory<'m> {
         values: &'m mut [u32],
         bases: &'m mut [u32],
         ends: &'m mut [u32],
+        unused: u32,
     ) -> Memory<'m> {
         Memory {
             nodes: checked.layout.nodes,
@@ -51,7 +52,7 @@ impl<'m> Memory<'m> {
             values,
             bases,
             ends,
-            unused: 1 + checked.layout.variables.len() as u32,
+            unused,
             base: 0,
             end: 0,
             stop: Stop::Abort,

@@ -1,0 +1,169 @@
+-- Refusals 13, 14 and 15, from what the loops over a register list have found.
+use Prim.Native.Nat.{ℕ, zero, suc, _+_, _≤_, _<_}
+use mathlib.Core.Bool.{Bool, true, false, _&&_}
+use mathlib.Core.Path.{_≡_, refl, sym, ap, _∙_}
+use native.Mathlib.Omega.{arith}
+use native.Mathlib.Decide.{ℕ-discrete}
+use native.Mathlib.Numerals.{add-one}
+use borrow.Author.Tests.{eq-eqb, ne-eqb, le-leb, lt-leb, lt-ltb, le-ltb}
+use lib.Dec.{leb, ltb, eqb}
+use lib.ListN.{length, List·getD-eq-default}
+use Rattle.semantics.specs.Words.{Words, word, if_then_else_, sum-below, least-below}
+use Rattle.semantics.specs.Table.{variables, count, item, is-pointer}
+use Rattle.semantics.specs.Registers.{register-count, register-place, register-variable, register-length, naming-below, register-start}
+use Rattle.semantics.specs.Check.{passes, refused, require, each, extent-fault, names-pointer, name-fault, room-fault, registers-fault}
+use Rattle.semantics.proofs.Registers.{Whole, places-rise, register-inside}
+use Rattle.layout.specs.Layout.{Stands}
+use Rattle.layout.specs.declared.Section.{Section}
+use Rattle.layout.proofs.Laws.{require-holds, require-refuses, or-else-pass, or-else-refuse, item-at, sum-more}
+
+-- ---- places
+
+pub place-none : (l : Words) → 1 ≡ register-place l 0
+unfolding register-place
+place-none l = refl
+
+pub place-more : (l : Words) (i : ℕ) {p q : ℕ} → p ≡ register-place l i → q ≡ p + 2 + word l (p + 1) → q ≡ register-place l (i + 1)
+unfolding register-place
+place-more l i e f = rw (add-one i, ← e) f
+
+pub place-all : (l : Words) {i n p : ℕ} → p ≡ register-place l i → i ≡ n → p ≡ register-place l n
+place-all l e h = e ∙ ap (register-place l) h
+
+-- A whole list has its count.
+pub whole-length : {l : Words} → Whole l → 0 < length l
+unfolding register-place
+whole-length {l} h = omega (arith, places-rise l 0 (register-count l) (omega arith), h .exact)
+
+-- ---- 13
+
+module _ (l : Words) where
+  pub over-most : 16 < register-count l → refused 13 0 ≡ extent-fault l
+  unfolding extent-fault
+  over-most h = sym (or-else-refuse _ _ (require-refuses (leb (register-count l) 16) 13 0 (lt-leb (register-count l) 16 h)))
+
+  module _ (few : register-count l ≤ 16) where
+    counted : require (leb (register-count l) 16) 13 0 ≡ passes
+    counted = require-holds _ 13 0 (le-leb (register-count l) 16 few)
+
+    -- Some register ends past the list, so the list is cut short.
+    pub cut-short : {i p : ℕ} → p ≡ register-place l i → i ≤ register-count l → length l < p → refused 13 (length l) ≡ extent-fault l
+    unfolding extent-fault
+    cut-short {i} e h past =
+        let end : length l < register-place l (register-count l) = omega (arith, places-rise l i (register-count l) h) in
+        sym (or-else-pass _ _ counted ∙ or-else-refuse _ _ (require-refuses _ 13 (length l) (lt-leb (register-place l (register-count l)) (length l) end)))
+
+    module _ {p : ℕ} (e : p ≡ register-place l (register-count l)) (h : p ≤ length l) where
+      not-cut : require (leb (register-place l (register-count l)) (length l)) 13 (length l) ≡ passes
+      not-cut = require-holds _ 13 (length l) (le-leb (register-place l (register-count l)) (length l) (omega arith))
+
+      pub words-over : p < length l → refused 13 p ≡ extent-fault l
+      unfolding extent-fault
+      words-over less =
+          sym (or-else-pass _ _ counted ∙ or-else-pass _ _ not-cut
+          ∙ require-refuses _ 13 (register-place l (register-count l)) (lt-leb (length l) (register-place l (register-count l)) (omega arith)) ∙ ap (refused 13) (sym e))
+
+      pub extent-passes : length l ≤ p → passes ≡ extent-fault l
+      unfolding extent-fault
+      extent-passes all =
+          sym (or-else-pass _ _ counted ∙ or-else-pass _ _ not-cut
+          ∙ require-holds _ 13 (register-place l (register-count l)) (le-leb (length l) (register-place l (register-count l)) (omega arith)))
+
+pub empty-list : (l : Words) → length l ≡ 0 → refused 13 0 ≡ extent-fault l
+empty-list l e =
+    rw e at (cut-short l (omega (arith, List·getD-eq-default l 0 {n = 0} (omega arith))) (place-none l) (omega arith) (omega arith))
+
+-- ---- 14
+
+and-false : (a : Bool) → a && false ≡ false
+and-false true = refl
+and-false false = refl
+
+pub naming-none : (l : Words) (v : ℕ) → naming-below l 0 v ≡ 0
+unfolding naming-below least-below
+naming-none l v = refl
+
+module _ (l : Words) (v j : ℕ) (none : naming-below l j v ≡ j) where
+  -- Register j is not the first to name v.
+  pub naming-more : (register-variable l j ≡ v → ⊥) → naming-below l (j + 1) v ≡ j + 1
+  unfolding naming-below least-below
+  naming-more other = rw (add-one j, none, le-ltb j j (omega arith), ne-eqb (register-variable l j) v other)
+
+  naming-here : register-variable l j ≡ v → naming-below l (suc j) v ≡ j
+  unfolding naming-below least-below
+  naming-here e = rw (none, le-ltb j j (omega arith), eq-eqb (register-variable l j) v e)
+
+  naming-stays : register-variable l j ≡ v → (n : ℕ) → j < n → naming-below l n v ≡ j
+  unfolding naming-below least-below
+  naming-stays e zero h = absurd (omega arith)
+  naming-stays e (suc n) h = go (ℕ-discrete j n) (naming-stays e n)
+    where
+      go : Dec (j ≡ n) → (j < n → naming-below l n v ≡ j) → naming-below l (suc n) v ≡ j
+      go (yes q) below = rw (sym q) (naming-here e)
+      go (no q) below = let f = below (omega arith) in rw (f, lt-ltb j n (omega arith)) refl
+
+  -- It is, so no later register is.
+  pub named-before : register-variable l j ≡ v → {i : ℕ} → j < i → false ≡ leb i (naming-below l i v)
+  named-before e {i} h = sym (rw (naming-stays e i h) (lt-leb i j h))
+
+pub named-nowhere : (l : Words) (v : ℕ) {i j : ℕ} → j ≡ i → naming-below l j v ≡ j → true ≡ leb i (naming-below l i v)
+named-nowhere l v {i} {j} e none = sym (rw (← e, none) (le-leb j j (omega arith)))
+
+-- A variable that is known.
+module _ {t : Words} {s : Section} (h : Stands t 3 s) (v : ℕ) where
+  pub unknown : s .count ≤ v → false ≡ names-pointer t v
+  unfolding names-pointer
+  unknown over = sym (rw (le-ltb v (count t variables) (omega (arith, h .total))) refl)
+
+  pub pointer-test : v < s .count → {p : ℕ} → p ≡ s .at + v → (b : Bool) → b ≡ leb 1 (word t p) → b ≡ names-pointer t v
+  unfolding names-pointer is-pointer
+  pointer-test known {p} e b tested = tested ∙ sym (rw (lt-ltb v (count t variables) (omega (arith, h .total)), item-at h v 0 p (omega arith)) refl)
+
+module _ (t l : Words) (i : ℕ) {p v : ℕ} (at : p ≡ register-place l i) (is : v ≡ word l p) where
+  pub no-pointer : {a : Bool} → a ≡ names-pointer t v → a ≡ false → name-fault t l i ≡ refused 14 p
+  unfolding name-fault
+  no-pointer ea e = rw (← at, ← is, ← ea, e) (require-refuses _ 14 p refl)
+
+  pub named-again : {b : Bool} → b ≡ leb i (naming-below l i v) → b ≡ false → name-fault t l i ≡ refused 14 p
+  unfolding name-fault
+  named-again eb e = rw (← at, ← is, ← eb, e) (require-refuses _ 14 p (and-false (names-pointer t v)))
+
+  pub name-passes : {a b : Bool} → a ≡ names-pointer t v → b ≡ leb i (naming-below l i v) → a ≡ true → b ≡ true → name-fault t l i ≡ passes
+  unfolding name-fault
+  name-passes ea eb e f = rw (← at, ← is, ← ea, ← eb, e, f) (require-holds _ 14 p refl)
+
+-- ---- 15
+
+pub start-none : (first : ℕ) (l : Words) → first ≡ register-start first l 0
+unfolding register-start sum-below
+start-none first l = omega arith
+
+pub start-more : (first : ℕ) (l : Words) (i : ℕ) {p e : ℕ} → p ≡ register-place l i → e ≡ register-start first l i → e + word l (p + 1) ≡ register-start first l (i + 1)
+unfolding register-start
+start-more first l i at e = omega (arith, sum-more (λ j. register-length l j) i, ap (λ q. word l (q + 1)) at)
+
+module _ (first : ℕ) (l : Words) (memory i : ℕ) {p end : ℕ} (at : p ≡ register-place l i) (e : end ≡ register-start first l (i + 1)) where
+  pub room-refused : memory < end → room-fault first l memory i ≡ refused 15 (p + 1)
+  unfolding room-fault
+  room-refused h = rw (← at, ← add-one i, ← e) (require-refuses _ 15 (p + 1) (lt-leb end memory h))
+
+  pub room-passes : end ≤ memory → room-fault first l memory i ≡ passes
+  unfolding room-fault
+  room-passes h = rw (← at, ← add-one i, ← e) (require-holds _ 15 (p + 1) (le-leb end memory h))
+
+-- ---- the three in their order
+
+module _ (t l : Words) (memory : ℕ) where
+  pub extent-refused : {n p : ℕ} → refused n p ≡ extent-fault l → refused n p ≡ registers-fault t l memory
+  unfolding registers-fault
+  extent-refused e = sym (or-else-refuse _ _ (sym e))
+
+  module _ (whole : passes ≡ extent-fault l) where
+    pub names-refused : {n p : ℕ} → refused n p ≡ each (register-count l) (name-fault t l) → refused n p ≡ registers-fault t l memory
+    unfolding registers-fault
+    names-refused e = sym (or-else-pass _ _ (sym whole) ∙ or-else-refuse _ _ (sym e))
+
+    pub room-judged : {first : ℕ} → passes ≡ each (register-count l) (name-fault t l) → first ≡ 1 + count t variables
+        → each (register-count l) (room-fault first l memory) ≡ registers-fault t l memory
+    unfolding registers-fault
+    room-judged e first = rw first (sym (or-else-pass _ _ (sym whole) ∙ or-else-pass _ _ (sym e)))

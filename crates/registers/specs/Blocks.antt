@@ -1,0 +1,48 @@
+-- The memory that registers need and leave.
+use Prim.Native.Nat.{ℕ, _+_, _≤_, _<_}
+use mathlib.Core.Path.{_≡_}
+use mathlib.Core.List.{[]}
+use lib.ListN.{length, take, drop}
+use Rattle.semantics.specs.Words.{Words, word}
+use Rattle.semantics.specs.Table.{variables, count}
+use Rattle.semantics.specs.Rules.{State}
+use Rattle.semantics.specs.Run.{with-register, registers-below}
+use Rattle.semantics.proofs.Registers.{Listed}
+
+-- Lists and a first unused word as a state. What registers do to them does not depend on the log.
+abbrev pub memory : Words → Words → Words → ℕ → State
+memory vs bs es u = record { values = vs; bases = bs; ends = es; unused = u; log = [] }
+
+-- Lists and first unused word are those of a state.
+pub record Holds (s : State) (vs bs es : Words) (u : ℕ) : Type 0 where
+  pub values : vs ≡ s .values
+  pub bases : bs ≡ s .bases
+  pub ends : es ≡ s .ends
+  pub unused : u ≡ s .unused
+
+-- The register at place p of a list was set in memory with this first unused word, which left that one.
+pub record Register-set (l : Words) (p : ℕ) (vs bs es : Words) (u : ℕ) (vs′ bs′ es′ : Words) (u′ : ℕ) : Type 0 where
+  pub holds : Holds (with-register (word l p) (word l (p + 1)) (take (word l (p + 1)) (drop (p + 2) l)) (memory vs bs es u)) vs′ bs′ es′ u′
+
+-- So were the registers of a list below i.
+pub record Registers-set (l : Words) (i : ℕ) (vs bs es : Words) (u : ℕ) (vs′ bs′ es′ : Words) (u′ : ℕ) : Type 0 where
+  pub holds : Holds (registers-below l i (memory vs bs es u)) vs′ bs′ es′ u′
+
+-- The register at place p of a list stands in it, and fits in the memory from word u on.
+pub record Fits (l : Words) (p u : ℕ) (vs bs es : Words) : Type 0 where
+  pub inside : p + 2 + word l (p + 1) ≤ length l
+  pub named : 1 + word l p < length vs
+  pub room : u + word l (p + 1) ≤ length vs
+  pub most : length vs ≤ 65536
+  pub bases-length : length bs ≡ length vs
+  pub ends-length : length es ≡ length vs
+
+-- All registers of a list that is not refused fit from word u on, which is the first after the variables of some table.
+pub record All-fit (l : Words) (u : ℕ) (vs bs es : Words) : Type 0 where
+  pub table : Words
+  pub list : Listed table l (length vs)
+  pub first : u ≡ 1 + count table variables
+  pub room : u ≤ length vs
+  pub most : length vs ≤ 65536
+  pub bases-length : length bs ≡ length vs
+  pub ends-length : length es ≡ length vs
