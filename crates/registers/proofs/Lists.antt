@@ -5,14 +5,16 @@ use mathlib.Core.Path.{_≡_, refl, sym, ap, _∙_}
 use native.Mathlib.Omega.{arith}
 use native.Mathlib.Decide.{ℕ-discrete}
 use native.Mathlib.Numerals.{add-one}
-use borrow.Author.Tests.{eq-eqb, ne-eqb, le-leb, lt-leb, lt-ltb, le-ltb}
+use borrow.Author.Tests.{ltb-true, eq-eqb, ne-eqb, le-leb, lt-leb, lt-ltb, le-ltb}
 use lib.Dec.{leb, ltb, eqb}
-use lib.ListN.{length, List·getD-eq-default}
+use lib.ListN.{length, set, replicate, length-set, getD-replicate, List·getD-eq-default}
+use lib.Seq.{getD-set-same, getD-set-other}
 use Rattle.semantics.specs.Words.{Words, word, if_then_else_, sum-below, least-below}
 use Rattle.semantics.specs.Table.{variables, count, item, is-pointer}
 use Rattle.semantics.specs.Registers.{register-count, register-place, register-variable, register-length, naming-below, register-start}
 use Rattle.semantics.specs.Check.{passes, refused, require, each, extent-fault, names-pointer, name-fault, room-fault, registers-fault}
-use Rattle.semantics.proofs.Registers.{Whole, places-rise, register-inside}
+use Rattle.semantics.proofs.Tests.{and-true}
+use Rattle.semantics.proofs.Registers.{Whole, places-rise}
 use Rattle.layout.specs.Layout.{Stands}
 use Rattle.layout.specs.declared.Section.{Section}
 use Rattle.layout.proofs.Laws.{require-holds, require-refuses, or-else-pass, or-else-refuse, item-at, sum-more}
@@ -79,35 +81,44 @@ and-false : (a : Bool) → a && false ≡ false
 and-false true = refl
 and-false false = refl
 
-pub naming-none : (l : Words) (v : ℕ) → naming-below l 0 v ≡ 0
+-- Register j is the first to name v, or not even that; one that is named stays so.
+module _ (l : Words) (v j : ℕ) where
+  naming-more : naming-below l j v ≡ j → (register-variable l j ≡ v → ⊥) → naming-below l (j + 1) v ≡ j + 1
+  unfolding naming-below least-below
+  naming-more none other = rw (add-one j, none, le-ltb j j (omega arith), ne-eqb (register-variable l j) v other)
+
+  naming-here : naming-below l j v ≡ j → register-variable l j ≡ v → naming-below l (j + 1) v < j + 1
+  unfolding naming-below least-below
+  naming-here none e = rw (add-one j, none, le-ltb j j (omega arith), eq-eqb (register-variable l j) v e) (omega arith)
+
+  naming-stays : naming-below l j v < j → naming-below l (j + 1) v < j + 1
+  unfolding naming-below least-below
+  naming-stays some = rw (add-one j, lt-ltb (naming-below l j v) j some) (omega arith)
+
+-- A list of marks, 0 for each variable that no register below i names.
+pub record Marked (l marks : Words) (i : ℕ) : Type 0 where
+  pub room : length marks ≡ 64
+  pub free : (v : ℕ) → v < 64 → word marks v ≡ 0 → naming-below l i v ≡ i
+  pub taken : (v : ℕ) → v < 64 → (word marks v ≡ 0 → ⊥) → naming-below l i v < i
+
+pub none-marked : (l : Words) → Marked l (replicate 64 0) 0
 unfolding naming-below least-below
-naming-none l v = refl
+none-marked l = record { room = refl; free = λ v h e. refl; taken = λ v h e. absurd (e (getD-replicate 64 v 0 0 h)) }
 
-module _ (l : Words) (v j : ℕ) (none : naming-below l j v ≡ j) where
-  -- Register j is not the first to name v.
-  pub naming-more : (register-variable l j ≡ v → ⊥) → naming-below l (j + 1) v ≡ j + 1
-  unfolding naming-below least-below
-  naming-more other = rw (add-one j, none, le-ltb j j (omega arith), ne-eqb (register-variable l j) v other)
+pub one-marked : {l marks : Words} {i w : ℕ} → Marked l marks i → w ≡ register-variable l i → w < 64 → word marks w ≡ 0 → Marked l (set marks w 1) (i + 1)
+one-marked {l} {marks} {i} {w} h here known unmarked =
+    record { room = length-set marks w 1 ∙ h .room; free = λ v less e. free v less e (ℕ-discrete v w); taken = λ v less e. taken v less e (ℕ-discrete v w) }
+  where
+    marked : word (set marks w 1) w ≡ 1
+    marked = getD-set-same marks w 1 0 (omega (arith, h .room))
 
-  naming-here : register-variable l j ≡ v → naming-below l (suc j) v ≡ j
-  unfolding naming-below least-below
-  naming-here e = rw (none, le-ltb j j (omega arith), eq-eqb (register-variable l j) v e)
+    free : (v : ℕ) → v < 64 → word (set marks w 1) v ≡ 0 → Dec (v ≡ w) → naming-below l (i + 1) v ≡ i + 1
+    free v less e (yes q) = absurd (omega (arith, rw q at e, marked))
+    free v less e (no q) = naming-more l v i (h .free v less (sym (getD-set-other marks w v 1 0 q) ∙ e)) (λ z. q (sym z ∙ sym here))
 
-  naming-stays : register-variable l j ≡ v → (n : ℕ) → j < n → naming-below l n v ≡ j
-  unfolding naming-below least-below
-  naming-stays e zero h = absurd (omega arith)
-  naming-stays e (suc n) h = go (ℕ-discrete j n) (naming-stays e n)
-    where
-      go : Dec (j ≡ n) → (j < n → naming-below l n v ≡ j) → naming-below l (suc n) v ≡ j
-      go (yes q) below = rw (sym q) (naming-here e)
-      go (no q) below = let f = below (omega arith) in rw (f, lt-ltb j n (omega arith)) refl
-
-  -- It is, so no later register is.
-  pub named-before : register-variable l j ≡ v → {i : ℕ} → j < i → false ≡ leb i (naming-below l i v)
-  named-before e {i} h = sym (rw (naming-stays e i h) (lt-leb i j h))
-
-pub named-nowhere : (l : Words) (v : ℕ) {i j : ℕ} → j ≡ i → naming-below l j v ≡ j → true ≡ leb i (naming-below l i v)
-named-nowhere l v {i} {j} e none = sym (rw (← e, none) (le-leb j j (omega arith)))
+    taken : (v : ℕ) → v < 64 → (word (set marks w 1) v ≡ 0 → ⊥) → Dec (v ≡ w) → naming-below l (i + 1) v < i + 1
+    taken v less e (yes q) = naming-here l v i (rw (sym q) at (h .free w known unmarked)) (sym here ∙ sym q)
+    taken v less e (no q) = naming-stays l v i (h .taken v less (λ z. e (getD-set-other marks w v 1 0 q ∙ z)))
 
 -- A variable that is known.
 module _ {t : Words} {s : Section} (h : Stands t 3 s) (v : ℕ) where
@@ -119,18 +130,25 @@ module _ {t : Words} {s : Section} (h : Stands t 3 s) (v : ℕ) where
   unfolding names-pointer is-pointer
   pointer-test known {p} e b tested = tested ∙ sym (rw (lt-ltb v (count t variables) (omega (arith, h .total)), item-at h v 0 p (omega arith)) refl)
 
-module _ (t l : Words) (i : ℕ) {p v : ℕ} (at : p ≡ register-place l i) (is : v ≡ word l p) where
-  pub no-pointer : {a : Bool} → a ≡ names-pointer t v → a ≡ false → name-fault t l i ≡ refused 14 p
-  unfolding name-fault
-  no-pointer ea e = rw (← at, ← is, ← ea, e) (require-refuses _ 14 p refl)
+-- A variable that passes has a mark.
+pub has-mark : {t : Words} {s : Section} → Stands t 3 s → {v : ℕ} {a : Bool} → a ≡ names-pointer t v → a ≡ true → v < 64
+unfolding names-pointer
+has-mark {t} h {v} ea e =
+    omega (arith, ltb-true v (count t variables) (and-true (ltb v (count t variables)) (is-pointer (item t variables v 0)) (sym ea ∙ e) .0), h .limited, h .total)
 
-  pub named-again : {b : Bool} → b ≡ leb i (naming-below l i v) → b ≡ false → name-fault t l i ≡ refused 14 p
+module _ (t l : Words) (i : ℕ) {p v : ℕ} (at : p ≡ register-place l i) (is : v ≡ word l p) {a : Bool} (ea : a ≡ names-pointer t v) where
+  pub no-pointer : a ≡ false → name-fault t l i ≡ refused 14 p
   unfolding name-fault
-  named-again eb e = rw (← at, ← is, ← eb, e) (require-refuses _ 14 p (and-false (names-pointer t v)))
+  no-pointer e = rw (← at, ← is, ← ea, e) (require-refuses _ 14 p refl)
 
-  pub name-passes : {a b : Bool} → a ≡ names-pointer t v → b ≡ leb i (naming-below l i v) → a ≡ true → b ≡ true → name-fault t l i ≡ passes
-  unfolding name-fault
-  name-passes ea eb e f = rw (← at, ← is, ← ea, ← eb, e, f) (require-holds _ 14 p refl)
+  module _ {marks : Words} (m : Marked l marks i) (known : v < 64) where
+    pub named-again : (word marks v ≡ 0 → ⊥) → name-fault t l i ≡ refused 14 p
+    unfolding name-fault
+    named-again e = rw (← at, ← is, lt-leb i (naming-below l i v) (m .taken v known e)) (require-refuses _ 14 p (and-false (names-pointer t v)))
+
+    pub name-passes : a ≡ true → word marks v ≡ 0 → name-fault t l i ≡ passes
+    unfolding name-fault
+    name-passes e free = rw (← at, ← is, ← ea, e, le-leb i (naming-below l i v) (omega (arith, m .free v known free))) (require-holds _ 14 p refl)
 
 -- ---- 15
 

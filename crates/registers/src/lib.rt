@@ -1,12 +1,10 @@
 // The registers that a call hands in: the check of their list, and the memory that they are at the start of a run.
 ghost use Prim.Native.Nat.{_+_, _≤_};
 ghost use mathlib.Core.Path.{_≡_};
-ghost use mathlib.Core.Bool.{_&&_};
-ghost use lib.Dec.{leb};
 ghost use lib.ListN.{length};
 ghost use Rattle.semantics.specs.Words.{word};
 ghost use Rattle.semantics.specs.Table.{count};
-ghost use Rattle.semantics.specs.Registers.{register-count, naming-below};
+ghost use Rattle.semantics.specs.Registers.{register-count};
 ghost use Rattle.semantics.specs.Check.{each, extent-fault, names-pointer, name-fault, room-fault, registers-fault};
 ghost use Rattle.semantics.proofs.Registers.{Whole};
 ghost use Rattle.layout.specs.Layout.{verdict-of, Stands};
@@ -56,21 +54,6 @@ fn check_extent(list: &[u32]) -> Verdict
     Verdict::Passes
 }
 
-// No register before register i names variable v. A list has at most 16, so that looking through them costs little.
-fn named_first(list: &[u32], i: u32, v: u32) -> bool
-    requires { ⌜ (Whole (now list)) × (i ≤ register-count (now list)) ⌝ }
-    ensures { λ r. ⌜ r ≡ leb i (naming-below (now (list .entry)) i v) ⌝ }
-{
-    let mut p = 1;
-    for j in 0..i {
-        if list[p] == v {
-            return false;
-        }
-        p = register_end(list, p);
-    }
-    true
-}
-
 // Variable v is known and a pointer.
 fn names_pointer(t: &[u32], variables: Section, v: u32) -> bool
     requires { ⌜ Stands (now t) 3 variables ⌝ }
@@ -90,15 +73,19 @@ fn check_names(t: &[u32], variables: Section, list: &[u32]) -> Verdict
     ensures { λ r. ⌜ verdict-of r ≡ each (register-count (now (list .entry))) (name-fault (now (t .entry)) (now (list .entry))) ⌝ }
 {
     let count = list[0];
+    // 1 for each variable that an earlier register names.
+    let mut named = [0u8; 64];
     let mut p = 1;
     for i in 0..count {
         let v = list[p];
         if !names_pointer(t, variables, v) {
             return Verdict::Refused(14, p);
         }
-        if !named_first(list, i, v) {
+        let k = index(v);
+        if named[k] != 0 {
             return Verdict::Refused(14, p);
         }
+        named[k] = 1;
         p = register_end(list, p);
     }
     Verdict::Passes
