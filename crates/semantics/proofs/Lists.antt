@@ -27,15 +27,19 @@ module _ {A : Type 0} (f : ℕ → List A → A) where
           let less : i < n = omega arith in
           List·getD-append (grow f n) (f n (grow f n) ∷ []) d i (omega (arith, length-grow n)) ∙ below less
 
+-- A function that rises at each step rises.
+pub rises : (f : ℕ → ℕ) → ((n : ℕ) → f n ≤ f (suc n)) → (m n : ℕ) → m ≤ n → f m ≤ f n
+rises f step m zero h = rw (m-zero) (omega arith)
+  where
+    m-zero : m ≡ 0
+    m-zero = omega arith
+rises f step m (suc n) h = go (ℕ-discrete m (suc n)) (rises f step m n)
+  where
+    go : Dec (m ≡ suc n) → (m ≤ n → f m ≤ f n) → f m ≤ f (suc n)
+    go (yes e) below = rw e (omega arith)
+    go (no e) below = omega (arith, below (omega arith), step n)
+
 -- A sum is at least any of its first terms' sum.
 pub sum-below-≤ : (f : ℕ → ℕ) (m n : ℕ) → m ≤ n → sum-below m f ≤ sum-below n f
 unfolding sum-below
-sum-below-≤ f m zero h = rw (mz) (omega arith)
-  where
-    mz : m ≡ 0
-    mz = omega arith
-sum-below-≤ f m (suc n) h = go (ℕ-discrete m (suc n)) (sum-below-≤ f m n)
-  where
-    go : Dec (m ≡ suc n) → (m ≤ n → sum-below m f ≤ sum-below n f) → sum-below m f ≤ sum-below n f + f n
-    go (yes e) below = rw e (omega arith)
-    go (no e) below = omega (arith, below (omega arith))
+sum-below-≤ f = rises (λ n. sum-below n f) (λ n. omega arith)

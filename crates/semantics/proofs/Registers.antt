@@ -1,10 +1,9 @@
 -- What a register list that isn't refused tells, and that its registers keep the invariant.
 use Prim.Native.Nat.{ℕ, zero, suc, _+_, _≤_, _<_}
-use mathlib.Core.Bool.{true, _&&_}
+use mathlib.Core.Bool.{_&&_}
 use mathlib.Core.Path.{_≡_, refl, _∙_}
-use mathlib.Core.List.{[], _∷_, List·Memᴰ·head}
+use mathlib.Core.List.{[], _∷_}
 use native.Mathlib.Omega.{arith}
-use native.Mathlib.Decide.{ℕ-discrete}
 use borrow.Author.Tests.{ltb-true, leb-true}
 use lib.Dec.{leb, ltb}
 use lib.ListN.{length, take, drop, set}
@@ -13,13 +12,14 @@ use Rattle.semantics.specs.Words.{Words, word, sum-below}
 use Rattle.semantics.specs.Table.{variables, count, is-pointer, item}
 use Rattle.semantics.specs.Registers.{register-count, register-place, register-variable, register-length, register-words, naming-below, register-start}
 use Rattle.semantics.specs.Check.{passes, require, each, extent-fault, names-pointer, name-fault, room-fault, registers-fault}
-use Rattle.semantics.specs.Rules.{unbounded, block-pointer, State, with-block, with-datum}
-use Rattle.semantics.specs.Run.{with-values, with-register, registers-below}
-use Rattle.semantics.specs.Safety.{block, absent, held}
+use Rattle.semantics.specs.Rules.{unbounded, block-pointer, State}
+use Rattle.semantics.specs.Run.{with-register, registers-below}
+use Rattle.semantics.specs.Safety.{absent, held}
 use Rattle.semantics.proofs.Tests.{and-true}
+use Rattle.semantics.proofs.Lists.{rises}
 use Rattle.semantics.proofs.Passed.{or-else-passes, require-passes, each-passes}
 use Rattle.semantics.proofs.Invariant.{Inv}
-use Rattle.semantics.proofs.Steps.{block-inv, pointer-inv}
+use Rattle.semantics.proofs.Steps.{block-inv, block-held, values-inv, pointer-inv}
 
 -- ---- a list that isn't refused
 
@@ -40,15 +40,7 @@ whole l e =
 
 pub places-rise : (l : Words) (i n : ℕ) → i ≤ n → register-place l i ≤ register-place l n
 unfolding register-place
-places-rise l i zero h = rw (i-zero) (omega arith)
-  where
-    i-zero : i ≡ 0
-    i-zero = omega arith
-places-rise l i (suc n) h = go (ℕ-discrete i (suc n)) (places-rise l i n)
-  where
-    go : Dec (i ≡ suc n) → (i ≤ n → register-place l i ≤ register-place l n) → register-place l i ≤ register-place l n + 2 + word l (register-place l n + 1)
-    go (yes e) below = rw e (omega arith)
-    go (no e) below = omega (arith, below (omega arith))
+places-rise l = rises (register-place l) (λ n. omega arith)
 
 -- Register i of a whole list stands in it.
 pub register-inside : {l : Words} → Whole l → (i : ℕ) → i < register-count l → register-place l i + 2 + register-length l i ≤ length l
@@ -89,38 +81,13 @@ sets-other l i [] w h = refl
 sets-other l i (x ∷ xs) w h =
     sets-other (set l i x) (suc i) xs w (omega arith) ∙ getD-set-other l i w x 0 (λ e. omega arith)
 
--- Values that are changed below U alone.
-values-inv : {vars len : ℕ} {s : State} (vs : Words) → length vs ≡ length (s .values) → ((w : ℕ) → s .unused ≤ w → word vs w ≡ word (s .values) w) → Inv vars len s
-    → Inv vars len (with-values vs s)
-values-inv vs same above inv =
-    record {
-      values-length = same ∙ inv .values-length;
-      bases-length = inv .bases-length;
-      ends-length = inv .ends-length;
-      low = inv .low;
-      high = inv .high;
-      blocks = inv .blocks;
-      sound = inv .sound;
-      allowed = inv .allowed;
-      clear = λ w h. (above w h ∙ inv .clear w h .0, inv .clear w h .1, inv .clear w h .2);
-    }
-
 register-inv : {vars len : ℕ} {s : State} (v n : ℕ) (ws : Words) → v < vars → length ws ≤ n → s .unused + n ≤ len → Inv vars len s
     → Inv vars len (with-register v n ws s)
 register-inv v zero ws known fits room inv = pointer-inv (1 + v) (unbounded 0) (omega (arith, inv .low)) inv (record { sound = absent refl refl })
 register-inv {s = s} v (suc n) ws known fits room inv =
     pointer-inv (1 + v) (block-pointer (s .unused) (suc n)) (omega (arith, inv .low))
     (values-inv (sets (s .values) (s .unused) ws) (length-sets (s .values) (s .unused) ws) (λ w h. sets-other (s .values) (s .unused) ws w (omega arith)) (block-inv (suc n) inv room))
-    (record {
-      sound = held (record {
-        s = s .unused;
-        t = s .unused + suc n;
-        region = block (s .unused) (suc n) (List·Memᴰ·head refl);
-        from = omega arith;
-        proper = omega arith;
-        upto = omega arith;
-      });
-    })
+    (record { sound = held (block-held (suc n) s (omega arith)) })
 
 register-unused : (v n : ℕ) (ws : Words) (s : State) → with-register v n ws s .unused ≡ s .unused + n
 register-unused v zero ws s = omega arith

@@ -12,7 +12,7 @@ use lib.ListN.{length, set, length-set}
 use lib.Seq.{getD-set-same, getD-set-other}
 use Rattle.semantics.specs.Words.{Words, word, if_then_else_}
 use Rattle.semantics.specs.Syntax.{Place, Variable, Deref, Field, Value, Number, Sum, Read, Address, Cast, Malloc}
-use Rattle.semantics.specs.Rules.{Datum, unbounded, block-pointer, Access, Location, Event, loaded, stored, allocated, State, noted, ok, fails, no-room, in-bounds, checked, deref-step, field-step, touchable, contents, read-step, cast-step, with-block, malloc-step, place-at, value-at, with-datum, assign-step, assign}
+use Rattle.semantics.specs.Rules.{Datum, unbounded, block-pointer, Access, Location, Event, loaded, stored, allocated, State, noted, with-values, ok, fails, no-room, in-bounds, checked, deref-step, field-step, touchable, contents, read-step, cast-step, with-block, malloc-step, place-at, value-at, with-datum, assign-step, assign}
 use Rattle.semantics.specs.Safety.{variable, block, Held, Permitted, by-name, by-pointer, Allowed, load, store, alloc, Sound, absent, held, Unwritten, Same-word}
 use Rattle.semantics.proofs.Tests.{in-bounds-true, and-both}
 use Rattle.semantics.proofs.Invariant.{Inv, Within, Later, now, sound-later, permitted-used, Datum-ok, Location-ok, location-later, Good, good-ok, good-fails, good-no-room, bind-good}
@@ -71,6 +71,11 @@ block-inv {vars} {len} {s} n inv fits =
         let r : k ≡ n = cc in
         omega (arith, inv .low)
 
+-- The words of a new block hold its bounds.
+pub block-held : {vars : ℕ} (n : ℕ) (s : State) → 0 < n → Held vars (with-block n s .log) (s .unused) (s .unused + n)
+block-held n s some =
+    record { s = s .unused; t = s .unused + n; region = block (s .unused) n (List·Memᴰ·head refl); from = omega arith; proper = omega arith; upto = omega arith }
+
 -- A store at w, which is in use: the word's bounds are the datum's, every other word is as it was.
 pub pointer-inv : {vars len : ℕ} {s : State} (w : ℕ) (x : Datum) → w < s .unused → Inv vars len s → Datum-ok vars x s → Inv vars len (with-datum true w x s)
 pointer-inv {vars} {len} {s} w x used inv good =
@@ -99,10 +104,12 @@ pointer-inv {vars} {len} {s} w x used inv good =
     other : (l : Words) (y v : ℕ) → s .unused ≤ v → word (set l w y) v ≡ word l v
     other l y v h = getD-set-other l w v y 0 (λ e. omega arith)
 
-int-inv : {vars len : ℕ} {s : State} (w : ℕ) (x : Datum) → w < s .unused → Inv vars len s → Inv vars len (with-datum false w x s)
-int-inv {s = s} w x used inv =
+-- Values that are changed below U alone.
+pub values-inv : {vars len : ℕ} {s : State} (vs : Words) → length vs ≡ length (s .values) → ((w : ℕ) → s .unused ≤ w → word vs w ≡ word (s .values) w) → Inv vars len s
+    → Inv vars len (with-values vs s)
+values-inv vs same above inv =
     record {
-      values-length = length-set (s .values) w (x .value) ∙ inv .values-length;
+      values-length = same ∙ inv .values-length;
       bases-length = inv .bases-length;
       ends-length = inv .ends-length;
       low = inv .low;
@@ -110,12 +117,13 @@ int-inv {s = s} w x used inv =
       blocks = inv .blocks;
       sound = inv .sound;
       allowed = inv .allowed;
-      clear = λ v h. (getD-set-other (s .values) w v (x .value) 0 (λ e. omega arith) ∙ inv .clear v h .0, inv .clear v h .1, inv .clear v h .2);
+      clear = λ w h. (above w h ∙ inv .clear w h .0, inv .clear w h .1, inv .clear w h .2);
     }
 
 datum-inv : {vars len : ℕ} {s : State} (pointer : Bool) (w : ℕ) (x : Datum) → w < s .unused → Inv vars len s → Datum-ok vars x s → Inv vars len (with-datum pointer w x s)
 datum-inv true w x used inv good = pointer-inv w x used inv good
-datum-inv false w x used inv good = int-inv w x used inv
+datum-inv {s = s} false w x used inv good =
+    values-inv (set (s .values) w (x .value)) (length-set (s .values) w (x .value)) (λ v h. getD-set-other (s .values) w v (x .value) 0 (λ e. omega arith)) inv
 
 log-kept : (pointer : Bool) (w : ℕ) (x : Datum) (s : State) → with-datum pointer w x s .log ≡ s .log
 log-kept true w x s = refl
@@ -196,17 +204,6 @@ malloc-good : {vars len : ℕ} (x : Datum) (s : State) → Inv vars len s → Go
 unfolding malloc-step
 malloc-good {vars} {len} x s inv = go (eqb (x .value) 0) refl (leb (s .unused + x .value) (length (s .values))) refl
   where
-    fresh : (eqb (x .value) 0 ≡ false) → Held vars (with-block (x .value) s .log) (s .unused) (s .unused + x .value)
-    fresh some =
-        record {
-          s = s .unused;
-          t = s .unused + x .value;
-          region = block (s .unused) (x .value) (List·Memᴰ·head refl);
-          from = omega arith;
-          proper = omega (arith, eqb-false (x .value) 0 some);
-          upto = omega arith;
-        }
-
     go : (none : Bool) → eqb (x .value) 0 ≡ none → (fits : Bool) → leb (s .unused + x .value) (length (s .values)) ≡ fits
         → Good vars len s (Datum-ok vars)
         (if none then ok (unbounded 0) s else
@@ -216,7 +213,7 @@ malloc-good {vars} {len} x s inv = go (eqb (x .value) 0) refl (leb (s .unused + 
     go false e true f =
         good-ok (block-inv (x .value) inv (omega (arith, leb-true (s .unused + x .value) (length (s .values)) f, inv .values-length)))
         (record { more = tail (allocated (s .unused) (x .value)); kept = λ w h. record { value = refl; base = refl; end = refl } })
-        (record { sound = held (fresh e) })
+        (record { sound = held (block-held (x .value) s (omega (arith, eqb-false (x .value) 0 e))) })
     go false e false f = good-no-room inv now
 
 -- ---- trees

@@ -48,6 +48,9 @@ pub record State : Type 0 where
 abbrev pub noted : Event → State → State
 noted e s = record { values = s .values; bases = s .bases; ends = s .ends; unused = s .unused; log = e ∷ s .log }
 
+abbrev pub with-values : Words → State → State
+with-values values s = record { values = values; bases = s .bases; ends = s .ends; unused = s .unused; log = s .log }
+
 -- A check that was not passed: whose, the place and the number of words wanted, and the bounds.
 pub record Shortfall : Type 0 where
   pub node : ℕ
@@ -155,8 +158,7 @@ unfoldable mutual
 abbrev pub with-datum : Bool → ℕ → Datum → State → State
 with-datum true w x s =
     record { values = set (s .values) w (x .value); bases = set (s .bases) w (x .base); ends = set (s .ends) w (x .end); unused = s .unused; log = s .log }
-with-datum false w x s =
-    record { values = set (s .values) w (x .value); bases = s .bases; ends = s .ends; unused = s .unused; log = s .log }
+with-datum false w x s = with-values (set (s .values) w (x .value)) s
 
 unfoldable pub assign-step : Bool → Location → Datum → State → Outcome (Unit {0})
 assign-step pointer l x s =

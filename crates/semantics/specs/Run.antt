@@ -9,16 +9,13 @@ use Rattle.semantics.specs.Table.{variables, commands, count, is-pointer
 use Rattle.semantics.specs.Registers.{register-count, register-variable, register-length, register-words}
 use Rattle.semantics.specs.Check.{Verdict, passes, refused, command-place, command-value, call-fault}
 use Rattle.semantics.specs.Syntax.{place-of, value-of}
-use Rattle.semantics.specs.Rules.{unbounded, block-pointer, State, Outcome, ok, fails, no-room, no-rule, with-block, with-datum, assign}
+use Rattle.semantics.specs.Rules.{unbounded, block-pointer, State, with-values, Outcome, ok, fails, no-room, no-rule, with-block, with-datum, assign}
 
 -- "U, the first unused word, starts at 1 + the number of variables." "A begun run first clears all three lists, then
 -- sets each variable's value from the input list, one input a variable."
 unfoldable pub cleared : Words → Words → ℕ → State
 cleared t inputs len =
     record { values = sets (replicate len 0) 1 inputs; bases = replicate len 0; ends = replicate len 0; unused = 1 + count t variables; log = [] }
-
-abbrev pub with-values : Words → State → State
-with-values values s = record { values = values; bases = s .bases; ends = s .ends; unused = s .unused; log = s .log }
 
 -- Request 1: a register of words ws becomes a block at U, its words without bounds, and variable v starts at it with its bounds. "With n = 0 it
 -- starts as 0 without bounds."
