@@ -1,4 +1,4 @@
-// What a run is begun with: the check of the lists and the inputs of a call, and the memory at its start.
+// What a call brings beside its table: the check of its lists and inputs; clearing a list, and storing words in it.
 ghost use mathlib.Core.Path.{_≡_};
 ghost use mathlib.Core.Bool.{_&&_, _||_};
 ghost use Prim.Native.Nat.{_+_, _≤_};

@@ -41,18 +41,18 @@ pub layout-refused : (t : Words) (v : Verdict) {n p : ℕ} → layout-by t v ≡
 layout-refused t passes e = absurd (let z : _≡_ {A = ℕ} 0 1 = cc in omega arith)
 layout-refused t (refused m q) e = cc
 
+-- The arguments' refusals: the lists' and inputs', then the registers'.
+abbrev pub rest-fault : Words → Words → Words → ℕ → ℕ → ℕ → Verdict
+rest-fault t inputs registers values bases ends = arguments-fault t inputs values bases ends or-else registers-fault t registers values
+
 -- A table that is refused is a call that is refused.
 pub table-refused : (t inputs registers vs bs es : Words) {n p : ℕ} → refused n p ≡ check t → Is (call t inputs registers vs bs es) (Refused n p) vs bs es
 unfolding call call-fault
 table-refused t inputs registers vs bs es e =
-    rw (or-else-refuse (check t) (arguments-fault t inputs (length vs) (length bs) (length es) or-else registers-fault t registers (length vs)) (sym e))
+    rw (or-else-refuse (check t) (rest-fault t inputs registers (length vs) (length bs) (length es)) (sym e))
     (record { answer = refl; values = refl; bases = refl; ends = refl })
 
 -- ---- the check of the other arguments
-
--- The arguments' refusals: the lists' and inputs', then the registers'.
-abbrev pub rest-fault : Words → Words → Words → ℕ → ℕ → ℕ → Verdict
-rest-fault t inputs registers values bases ends = arguments-fault t inputs values bases ends or-else registers-fault t registers values
 
 module _ (t inputs registers : Words) (values bases ends : ℕ) where
   pub arguments-refused : {n p : ℕ} → refused n p ≡ arguments-fault t inputs values bases ends → refused n p ≡ rest-fault t inputs registers values bases ends
@@ -61,6 +61,7 @@ module _ (t inputs registers : Words) (values bases ends : ℕ) where
   pub registers-judged : passes ≡ arguments-fault t inputs values bases ends → registers-fault t registers values ≡ rest-fault t inputs registers values bases ends
   registers-judged e = sym (or-else-pass _ _ (sym e))
 
+-- `told-as`, in a form that can be searched for.
 pub told-refused : {r : told.Verdict} {v : Verdict} {n p : ℕ} → verdict-of r ≡ v → r ≡ the.Refused n p → refused n p ≡ v
 told-refused e q = told-as e q
 
@@ -184,7 +185,7 @@ module _ {t first before notes : Words} {l : Table} (pr : Program t first before
     unfolding call-fault
     not-refused = or-else-pass (check t) (rest-fault t inputs registers (length vs) (length bs) (length es)) (pr .passed) ∙ sym e
 
-    pub call-begun : Begun t inputs registers (length vs) (length bs) (length es)
+    call-begun : Begun t inputs registers (length vs) (length bs) (length es)
     call-begun = begun t inputs registers (length vs) (length bs) (length es) not-refused
 
     pub can-begin : {vars : ℕ} → vars ≡ l .variables .count → Can-begin vars inputs registers vs bs es

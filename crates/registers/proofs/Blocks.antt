@@ -1,16 +1,15 @@
 -- The memory that registers leave, register by register.
-use Prim.Native.Nat.{ℕ, zero, suc, _+_, _≤_, _<_}
-use mathlib.Core.Path.{_≡_, refl, sym, ap, _∙_}
+use Prim.Native.Nat.{ℕ, zero, suc, _+_, _<_}
+use mathlib.Core.Path.{_≡_, refl, _∙_}
 use native.Mathlib.Omega.{arith}
 use native.Mathlib.Numerals.{add-one}
 use lib.ListN.{length, take, drop, set}
 use lib.Seq.{sets}
 use Rattle.semantics.specs.Words.{Words, word, sum-below}
-use Rattle.semantics.specs.Table.{variables, count}
 use Rattle.semantics.specs.Registers.{register-count, register-place, register-length, register-start}
 use Rattle.semantics.specs.Rules.{State}
 use Rattle.semantics.specs.Run.{with-register, registers-below}
-use Rattle.semantics.proofs.Registers.{Listed, register-inside, registers-unused}
+use Rattle.semantics.proofs.Registers.{register-inside, registers-unused}
 use Rattle.registers.specs.Blocks.{memory, Holds, Register-set, Registers-set, Fits, All-fit}
 
 -- ---- one register

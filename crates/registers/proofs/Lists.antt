@@ -1,15 +1,15 @@
 -- Refusals 13, 14 and 15, from what the loops over a register list have found.
-use Prim.Native.Nat.{ℕ, zero, suc, _+_, _≤_, _<_}
+use Prim.Native.Nat.{ℕ, _+_, _≤_, _<_}
 use mathlib.Core.Bool.{Bool, true, false, _&&_}
 use mathlib.Core.Path.{_≡_, refl, sym, ap, _∙_}
 use native.Mathlib.Omega.{arith}
 use native.Mathlib.Decide.{ℕ-discrete}
 use native.Mathlib.Numerals.{add-one}
 use borrow.Author.Tests.{ltb-true, eq-eqb, ne-eqb, le-leb, lt-leb, lt-ltb, le-ltb}
-use lib.Dec.{leb, ltb, eqb}
+use lib.Dec.{leb, ltb}
 use lib.ListN.{length, set, replicate, length-set, getD-replicate, List·getD-eq-default}
 use lib.Seq.{getD-set-same, getD-set-other}
-use Rattle.semantics.specs.Words.{Words, word, if_then_else_, sum-below, least-below}
+use Rattle.semantics.specs.Words.{Words, word, sum-below, least-below}
 use Rattle.semantics.specs.Table.{variables, count, item, is-pointer}
 use Rattle.semantics.specs.Registers.{register-count, register-place, register-variable, register-length, naming-below, register-start}
 use Rattle.semantics.specs.Check.{passes, refused, require, each, extent-fault, names-pointer, name-fault, room-fault, registers-fault}
@@ -81,7 +81,7 @@ and-false : (a : Bool) → a && false ≡ false
 and-false true = refl
 and-false false = refl
 
--- Register j is the first to name v, or not even that; one that is named stays so.
+-- One register more: it doesn't name v, it is the first to do so, or an earlier one was.
 module _ (l : Words) (v j : ℕ) where
   naming-more : naming-below l j v ≡ j → (register-variable l j ≡ v → ⊥) → naming-below l (j + 1) v ≡ j + 1
   unfolding naming-below least-below

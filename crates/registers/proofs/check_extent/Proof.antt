@@ -1,9 +1,8 @@
 -- `registers::check_extent` meets its contract. The loop's invariant: the registers before i stand in the list. Assumes nothing.
 use Prim.Native.Nat.{_≤_, _-_}
-use mathlib.Core.Path.{_≡_, refl}
+use mathlib.Core.Path.{_≡_}
 use native.Mathlib.Omega.{arith}
-use lib.ListN.{length}
-use Rattle.semantics.specs.Registers.{register-count, register-place}
+use Rattle.semantics.specs.Registers.{register-place}
 use Rattle.registers.proofs.Lists.{place-none, place-more, place-all, over-most, cut-short, words-over, extent-passes, empty-list}
 use Rattle.registers.proofs.check_extent.Statement.{statement}
 use Rattle.registers.proofs.check_extent.Tie as tie

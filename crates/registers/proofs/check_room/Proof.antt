@@ -3,8 +3,7 @@ use Prim.Native.Nat.{_+_, _≤_, _-_}
 use mathlib.Core.Path.{_≡_, refl, ap, _∙_}
 use native.Mathlib.Omega.{arith}
 use borrow.Author.Needs.{needs}
-use Rattle.semantics.specs.Words.{word}
-use Rattle.semantics.specs.Registers.{register-count, register-place, register-start}
+use Rattle.semantics.specs.Registers.{register-place, register-start}
 use Rattle.semantics.specs.Check.{passes, each, room-fault}
 use Rattle.semantics.proofs.Registers.{register-inside}
 use Rattle.layout.proofs.Laws.{each-more, each-refuses, each-all}

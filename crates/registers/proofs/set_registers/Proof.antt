@@ -1,8 +1,7 @@
 -- `registers::set_registers` meets its contract. The loop's invariant: the registers before i are in memory. Assumes nothing.
 use Prim.Native.Nat.{_≤_, _-_}
-use mathlib.Core.Path.{_≡_, refl, _∙_}
+use mathlib.Core.Path.{_≡_, refl}
 use native.Mathlib.Omega.{arith}
-use borrow.Author.Needs.{needs}
 use lib.ListN.{length}
 use Rattle.semantics.specs.Registers.{register-place}
 use Rattle.semantics.proofs.Registers.{register-inside}
