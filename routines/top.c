@@ -9,6 +9,6 @@ struct car *car;
 
 void routine(void) {
     car = malloc(sizeof(struct car));
-    car = car + 4294967292u; /* by words: 2 + 4294967292 = 4294967294 */
-    car->position = 9;       /* aborts here */
+    car = (struct car *)((int *)car + 4294967292u); /* by words: 2 + 4294967292 = 4294967294 */
+    car->position = 9;                              /* aborts here */
 }

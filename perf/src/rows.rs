@@ -33,7 +33,7 @@ pub struct Plan {
     routines: Box<dyn Fn() -> Vec<Routine>>,
 }
 
-const QUICK: [&str; 8] = [
+const QUICK: [&str; 9] = [
     "small",
     "middle",
     "largest",
@@ -41,6 +41,7 @@ const QUICK: [&str; 8] = [
     "deep places",
     "dereferences",
     "fields",
+    "records",
     "allocations",
 ];
 
@@ -86,6 +87,7 @@ fn shapes() -> Vec<Plan> {
         plan("dereferences", 16, || vec![dereferences()]),
         plan("pointer chain", 16, || vec![pointer_chain()]),
         plan("fields", 256, || vec![fields()]),
+        plan("records", 64, || vec![records()]),
         plan("allocations", 256, || vec![allocations()]),
         plan("mixed, 500 tables", 128, || mixed(500)),
     ]

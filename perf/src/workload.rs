@@ -222,6 +222,21 @@ pub fn fields() -> Routine {
     r
 }
 
+/// Eight records in a row, then `(p + n)->field = n`, 72 times.
+pub fn records() -> Routine {
+    let mut r = declarations();
+    r.block(0, entry(0), 32);
+    for i in 0..72 {
+        let pointer = r.get(0);
+        let steps = r.constant((i * 5) % 8);
+        let moved = r.sum(pointer, steps);
+        let place = r.field(moved, i % 2);
+        let value = r.constant(i);
+        r.assign(place, value);
+    }
+    r
+}
+
 /// `p = malloc(1)`, 170 times.
 pub fn allocations() -> Routine {
     let mut r = Routine {

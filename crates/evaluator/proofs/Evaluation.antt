@@ -8,14 +8,15 @@ use native.Mathlib.Decide.{ℕ-discrete}
 use native.Mathlib.Nat.{le-antisymm}
 use lib.ListN.{length}
 use Rattle.semantics.specs.Words.{Words, word}
-use Rattle.semantics.specs.Table.{nodes, count, item, is-pointer, known-target, size-of, read, size, place, node-a, node-b, node-type}
+use Rattle.semantics.specs.Table.{nodes, count, item, is-pointer, known-type, known-target, size-of, read, size, place, node-a, node-b, node-type}
+use Rattle.semantics.specs.Syntax.{value-of, step-of}
 use Rattle.semantics.specs.Check.{is-child}
 use Rattle.semantics.specs.Rules.{Datum, Location, Event, State, Outcome, unbounded, bind, variable-location, address-step, place-at}
 use Rattle.semantics.proofs.Passed.{require-passes}
-use Rattle.semantics.proofs.Trees.{Node-ok, node-ok, is-child-true}
+use Rattle.semantics.proofs.Trees.{Node-ok, node-ok, is-child-true, types-known}
 use Rattle.semantics.proofs.Invariant.{Inv, Datum-ok, Good, good-ok}
-use Rattle.semantics.proofs.Steps.{place-good, value-good}
-use Rattle.evaluator.specs.Lists.{part, Lists, Node-ready, Reads-variable, Field-node, Field-ready, Target-word, Target-ready}
+use Rattle.semantics.proofs.Steps.{Value-ok, place-good, value-good}
+use Rattle.evaluator.specs.Lists.{part, Lists, Node-ready, Reads-variable, Field-node, Field-ready, Known-word, Known-ready}
 use Rattle.steps.specs.Answers.{column, failed, state-of, Kept, Bounded, answers-ok, answers-failed, answers-full, Datum-answers, Location-answers, Variable-answered, Deref-answered, Field-answered, Sum-answered, Load-answered, Cast-answered, Malloc-answered}
 use Rattle.evaluator.specs.Result.{Ready, Place-ready, Pointed-ready, Value-ready, Place-answered, Value-answered, Assigned-answered}
 use Rattle.steps.proofs.Finish.{passed-on, touched}
@@ -33,6 +34,18 @@ module _ {t : Words} {l : List Words} (lists : Lists t l) {n : ℕ} (node : n < 
 
   b-is : {a : ℕ} → a ≡ part l n 2 → a ≡ node-b t n
   b-is p = item-is lists node 2 (omega arith) p
+
+-- The type that the lists have of a value is the node's, and known.
+noted-type : {vars : ℕ} {t : Words} {l : List Words} {a y : ℕ} (lists : Lists t l) → a < count t nodes → Value-ok vars (value-of t a) → y ≡ word (column l 1) a
+    → (y ≡ node-type t a) × Known-word known-type t l y
+noted-type {t = t} {a = a} lists inside tree e =
+    let same = e ∙ lists .type-is a inside (value-node t a tree) in
+    (same, record { lists = lists; known = rw same (types-known (lists .passed .types) (count t nodes) (lists .passed .node-passes) a inside) })
+
+-- A step that was found by that type goes by the node's.
+step-is : {vars : ℕ} {t : Words} {l : List Words} {a y z : ℕ} → Lists t l → a < count t nodes → Value-ok vars (value-of t a) → y ≡ word (column l 1) a
+    → ((t : Words) → Known-word known-type t l y → z ≡ step-of t y) → z ≡ step-of t (node-type t a)
+step-is {t = t} lists inside tree e found = let noted = noted-type lists inside tree e in rw (noted .0) at (found t (noted .1))
 
 -- A size's target is known.
 size-known : (t : Words) (n : ℕ) {l : List Words} → item t nodes n 0 ≡ 9 → Lists t l → n < count t nodes → known-target t (node-a t n) ≡ true
@@ -135,15 +148,23 @@ module _ {l m : List Words} {n : ℕ} {s : Words} (h : Value-ready l m n s) wher
     p-ready : {x a : ℕ} → Place-child (h .state .vars) (h .table) n x → a ≡ x → (a < n) × Place-ready l m a s
     p-ready ch p = place-ready (h .lists) (h .node) (h .room) (h .state) ch p
 
-    pub size-ready : k ≡ 9 → ((n < 512) × (n * 3 + 1 < length (column l 0)) × (length s ≡ 3)) × Target-ready l (part l n 1)
+    pub size-ready : k ≡ 9 → ((n < 512) × (n * 3 + 1 < length (column l 0)) × (length s ≡ 3)) × Known-ready known-target l (part l n 1)
     size-ready q =
         let t = h .table in
         let i = value-item 1 (omega arith) in
-        ((i .0, i .2, h .room), record { table = t; is-target = record { lists = h .lists; known = rw (h .lists .node-is n 1 (h .node) (omega arith)) (size-known t n (is q) (h .lists) (h .node)) } })
+        ((i .0, i .2, h .room), record { table = t; is-known = record { lists = h .lists; known = rw (h .lists .node-is n 1 (h .node) (omega arith)) (size-known t n (is q) (h .lists) (h .node)) } })
 
     module _ {a : ℕ} (p : a ≡ part l n 1) where
       pub sum-ready : k ≡ 5 → (a < n) × Value-ready l m a s
       sum-ready q = a-ready (sum-node (h .table) n (is q) (h .tree) .0) (a-is (h .lists) (h .node) p)
+
+      pub left-type : k ≡ 5 → (a < 512) × (a < length (column l 1))
+      left-type q = type-inside (h .lists) (omega (arith, sum-ready q .0, h .node))
+
+      pub step-ready : {y : ℕ} → k ≡ 5 → y ≡ word (column l 1) a → Known-ready known-type l y
+      step-ready q e =
+          let tree = rw (← a-is (h .lists) (h .node) p) at (sum-node (h .table) n (is q) (h .tree) .0 .tree) in
+          record { table = h .table; is-known = noted-type (h .lists) (omega (arith, sum-ready q .0, h .node)) tree e .1 }
 
       pub read-ready : k ≡ 6 → (a < n) × Place-ready l m a s
       read-ready q = p-ready (read-node (h .table) n (is q) (h .tree) .0) (a-is (h .lists) (h .node) p)
@@ -270,7 +291,7 @@ module _ {l m : List Words} {n : ℕ} {s : Words} {k a : ℕ} (e : k ≡ part l 
             (answers-ok (unbounded a) log (sym h) (sym (set .base)) (sym (set .end)) small);
       }
 
-  pub size-answer : {r : ℕ} {s′ : Words} → k ≡ 9 → ((t : Words) → Target-word t l a → r ≡ size-of t a) → r < failed → Bounded 0 0 s s′ → Value-answered l m n s r s′
+  pub size-answer : {r : ℕ} {s′ : Words} → k ≡ 9 → ((t : Words) → Known-word known-target t l a → r ≡ size-of t a) → r < failed → Bounded 0 0 s s′ → Value-answered l m n s r s′
   unfolding place-at
   size-answer q hr small set =
       record {
@@ -293,8 +314,9 @@ module _ {l m : List Words} {n : ℕ} {s : Words} {k a : ℕ} (e : k ≡ part l 
             rw (nd .2, ← p′) (passed-on _ _ _ over (child .meets t lists (omega (arith, nd .0 .less, p′)) vars log inv (rw (← p′) at (nd .0 .tree))));
       }
 
-  module _ {d v : ℕ} {s₁ : Words} (q : k ≡ 5) (g : d ≡ part l n 2) (child : Value-answered l m a s v s₁) (under : v < failed) where
-    pub sum-answer : {w r : ℕ} {s₂ s₃ : Words} → Value-answered l m d s₁ w s₂ → Sum-answered v w r → Bounded (word s₁ 0) (word s₁ 1) s₂ s₃ → Value-answered l m n s r s₃
+  module _ {d v y z : ℕ} {s₁ : Words} (q : k ≡ 5) (g : d ≡ part l n 2) (child : Value-answered l m a s v s₁) (under : v < failed)
+    (hy : y ≡ word (column l 1) a) (hz : (t : Words) → Known-word known-type t l y → z ≡ step-of t y) where
+    pub sum-answer : {w r : ℕ} {s₂ s₃ : Words} → Value-answered l m d s₁ w s₂ → Sum-answered z v w r → Bounded (word s₁ 0) (word s₁ 1) s₂ s₃ → Value-answered l m n s r s₃
     unfolding place-at
     sum-answer right answer set =
         record {
@@ -304,15 +326,16 @@ module _ {l m : List Words} {n : ℕ} {s : Words} {k a : ℕ} (e : k ≡ part l 
               let p′ = a-is lists node p in
               let d′ = b-is lists node g in
               let tree = rw (← p′) at (nd .0 .tree) in
-              rw (nd .2, ← p′, ← d′, set .base, set .end, set .kept .unused)
-              (goes-on-good _ under (child .meets t lists (omega (arith, nd .0 .less, p′)) vars log inv tree) (value-good tree _ inv)
+              let inside : a < count t nodes = omega (arith, nd .0 .less, p′) in
+              rw (nd .2, ← p′, ← step-is lists inside tree hy hz, ← d′, set .base, set .end, set .kept .unused)
+              (goes-on-good _ under (child .meets t lists inside vars log inv tree) (value-good tree _ inv)
               (λ x log₁ hv hb he inv₁. answer .meets x _ _ _ _ m _ _ hv hb he (right .meets t lists (omega (arith, nd .1 .less, d′)) vars log₁ inv₁ (rw (← d′) at (nd .1 .tree)))));
         }
 
     -- The right operand is a constant: its number is added, and no bounds are set.
-    pub sum-constant-answer : {j i w r : ℕ} → j ≡ part l d 0 → j ≡ 4 → i ≡ part l d 1 → w ≡ i → w < failed → Sum-answered v w r → Value-answered l m n s r s₁
+    pub sum-constant-answer : {j i w r : ℕ} → j ≡ part l d 0 → j ≡ 4 → i ≡ part l d 1 → w ≡ i → w < failed → Sum-answered z v w r → Value-answered l m n s r s₁
     unfolding place-at
-    sum-constant-answer {i = i} f z x hw small answer =
+    sum-constant-answer {i = i} f four x hw small answer =
         record {
           room = child .room;
           meets = λ t lists node vars log inv h.
@@ -320,9 +343,10 @@ module _ {l m : List Words} {n : ℕ} {s : Words} {k a : ℕ} (e : k ≡ part l 
               let p′ = a-is lists node p in
               let d′ = b-is lists node g in
               let tree = rw (← p′) at (nd .0 .tree) in
+              let inside : a < count t nodes = omega (arith, nd .0 .less, p′) in
               let right : d < count t nodes = omega (arith, nd .1 .less, d′) in
-              rw (nd .2, ← p′, ← d′, constant-node t d (kind-is lists right f z), ← a-is lists right x)
-              (goes-on-good _ under (child .meets t lists (omega (arith, nd .0 .less, p′)) vars log inv tree) (value-good tree _ inv)
+              rw (nd .2, ← p′, ← step-is lists inside tree hy hz, ← d′, constant-node t d (kind-is lists right f four), ← a-is lists right x)
+              (goes-on-good _ under (child .meets t lists inside vars log inv tree) (value-good tree _ inv)
               (λ y log₁ hv hb he inv₁. answer .meets y _ _ 0 0 m _ _ hv hb he (answers-ok (unbounded i) log₁ (sym hw) refl refl small)));
         }
 
@@ -387,7 +411,7 @@ module _ {l m : List Words} {n : ℕ} {s : Words} {k a : ℕ} (e : k ≡ part l 
             let p′ = a-is lists node p in
             let tree = rw (← p′) at (nd .0 .tree) in
             let inside : a < count t nodes = omega (arith, nd .0 .less, p′) in
-            let from′ : from ≡ node-type t (node-a t n) = rw (← p′) (hf ∙ lists .type-is a inside (value-node t a tree)) in
+            let from′ : from ≡ node-type t (node-a t n) = rw (← p′) (noted-type lists inside tree hf .0) in
             let y′ : is-pointer y ≡ cast-keeps t n = rw (← from′, ← b-is lists node ht) hy in
             rw (nd .1, ← y′, ← p′, hr, kept .unused) (answer .meets m _ _ (child .meets t lists inside vars log inv tree));
       }

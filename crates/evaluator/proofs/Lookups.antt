@@ -5,19 +5,21 @@ use mathlib.Core.Path.{_≡_, sym, _∙_}
 use mathlib.Core.Logic.{⊎-elim}
 use mathlib.Core.List.{List}
 use native.Mathlib.Omega.{arith}
-use borrow.Author.Tests.{lt-ltb, le-ltb, ltb-true, leb-true, eqb-true}
+use native.Mathlib.Decide.{decLt}
+use borrow.Author.Tests.{lt-leb, le-leb, lt-ltb, le-ltb, ltb-true, leb-true, eqb-true}
 use lib.Dec.{leb, ltb, eqb}
 use lib.ListN.{length}
-use Rattle.semantics.specs.Words.{Words, word, sum-below}
+use Rattle.semantics.specs.Words.{Words, word, if_then_else_, sum-below}
 use Rattle.semantics.specs.Table.{records, fields, pointers, nodes, count, item, known-type, known-target, target, points-to-record, pointed-record, field-total, first-field, field-offset, field-count, size-of, field, value, node-a, node-b, node-type}
+use Rattle.semantics.specs.Syntax.{step-of}
 use Rattle.semantics.specs.Check.{field-sum-fault, is-child}
-use Rattle.semantics.proofs.Passed.{Types-passed, section-ok, require-passes, record-known, field-in}
+use Rattle.semantics.proofs.Passed.{Types-passed, section-ok, require-passes, target-known, record-known, field-in}
 use Rattle.semantics.proofs.Tests.{and-true, or-true}
 use Rattle.semantics.proofs.Trees.{Node-ok, node-ok, is-child-true, types-known}
 use Rattle.layout.specs.Types.{words-before}
 use Rattle.layout.proofs.Laws.{sum-more}
 use Rattle.layout.proofs.Types.{first-≤}
-use Rattle.evaluator.specs.Lists.{part, Lists, Field-node, Target-word}
+use Rattle.evaluator.specs.Lists.{part, Lists, Field-node, Known-word}
 use Rattle.steps.specs.Answers.{column}
 
 few-records : {t : Words} → Types-passed t → count t records ≤ 32
@@ -87,6 +89,23 @@ record-at {t} h r less =
       before-field = λ f l. h .befores .holds (first-field t r + f) (omega arith) ∙ offset t r f;
     }
 
+-- ---- pointer types
+
+module _ {t : Words} {l : List Words} {y : ℕ} (h : Known-word known-type t l y) (entry : 2 ≤ y) where
+  entry-less : y - 2 < count t pointers
+  unfolding known-type
+  entry-less = omega (arith, ltb-true y (2 + count t pointers) (h .known))
+
+  pub entry-inside : (y - 2 < 64) × (y - 2 < length (column l 2))
+  entry-inside = omega (arith, entry-less, few-pointers (h .lists .passed .types), h .lists .target-room)
+
+  pub entry-target : {x : ℕ} → x ≡ word (column l 2) (y - 2) → x ≡ target t y
+  unfolding target
+  entry-target e = e ∙ h .lists .target-is (y - 2) entry-less
+
+  pub target-word : {x : ℕ} → x ≡ target t y → Known-word known-target t l x
+  target-word e = record { lists = h .lists; known = rw e (target-known (h .lists .passed .types) y (h .known) entry) }
+
 -- ---- a field's record: the type of its child is a pointer to one of the table's records, and that has the field
 
 abbrev record-of : Words → ℕ → ℕ
@@ -95,14 +114,14 @@ record-of t n = pointed-record t (node-type t (node-a t n))
 record Field-in (t : Words) (l : List Words) (n : ℕ) : Type 0 where
   child : node-a t n < n
   type : word (column l 1) (node-a t n) ≡ node-type t (node-a t n)
+  known : known-type t (node-type t (node-a t n)) ≡ true
   entry : 2 ≤ node-type t (node-a t n)
-  pointer : node-type t (node-a t n) - 2 < count t pointers
   far : 65536 ≤ target t (node-type t (node-a t n))
   rec : record-of t n < count t records
   less : node-b t n < field-total t (record-of t n)
 
 field-found : {t : Words} {l : List Words} {n : ℕ} → Field-node t l n → Field-in t l n
-unfolding points-to-record known-type
+unfolding points-to-record
 field-found {t} {l} {n} h =
     let ok = h .lists .passed in
     let g : Node-ok t n field (node-a t n) (node-b t n) = rw (h .kind) at (node-ok t n (ok .node-passes n (h .node))) in
@@ -111,12 +130,11 @@ field-found {t} {l} {n} h =
     let known = types-known (ok .types) (count t nodes) (ok .node-passes) (node-a t n) inside in
     let fit = and-true (points-to-record t (node-type t (node-a t n))) _ (g .fit) in
     let points = and-true (leb 2 (node-type t (node-a t n))) (leb 65536 (target t (node-type t (node-a t n)))) (fit .0) in
-    let entry = leb-true 2 (node-type t (node-a t n)) (points .0) in
     record {
       child = ch .0;
       type = h .lists .type-is (node-a t n) inside (sym (ch .1));
-      entry = entry;
-      pointer = omega (arith, ltb-true (node-type t (node-a t n)) (2 + count t pointers) known);
+      known = known;
+      entry = leb-true 2 (node-type t (node-a t n)) (points .0);
       far = leb-true 65536 (target t (node-type t (node-a t n))) (points .1);
       rec = record-known (ok .types) (node-type t (node-a t n)) known (fit .0);
       less = ltb-true (node-b t n) (field-total t (record-of t n)) (fit .1);
@@ -132,24 +150,15 @@ module _ {t : Words} {l : List Words} {n : ℕ} (h : Field-node t l n) where
     type-is : ty ≡ node-type t (node-a t n)
     type-is = q ∙ rw (item-is (h .lists) (h .node) 1 (omega arith) e) (field-found h .type)
 
-    pub entry-type : 2 ≤ ty
-    entry-type = rw type-is (field-found h .entry)
+    pub pointer-type : Known-word known-type t l ty × (2 ≤ ty)
+    pointer-type = let f = field-found h in (record { lists = h .lists; known = rw type-is (f .known) }, rw type-is (f .entry))
 
-    pub target-inside : (ty - 2 < 64) × (ty - 2 < length (column l 2))
-    target-inside =
-        let f = field-found h in
-        rw type-is (omega (arith, f .pointer, few-pointers (h .lists .passed .types), h .lists .target-room))
+    pub record-target : {x : ℕ} → x ≡ target t ty → 65536 ≤ x
+    record-target p = rw (p, type-is) (field-found h .far)
 
-    target-is : {x : ℕ} → x ≡ word (column l 2) (ty - 2) → x ≡ target t (node-type t (node-a t n))
-    unfolding target
-    target-is p = p ∙ rw type-is (h .lists .target-is _ (field-found h .pointer))
-
-    pub record-target : {x : ℕ} → x ≡ word (column l 2) (ty - 2) → 65536 ≤ x
-    record-target p = rw (target-is p) (field-found h .far)
-
-    pub record-is : {x r : ℕ} → x ≡ word (column l 2) (ty - 2) → r ≡ x - 65536 → r ≡ record-of t n
+    pub record-is : {x r : ℕ} → x ≡ target t ty → r ≡ x - 65536 → r ≡ record-of t n
     unfolding pointed-record
-    record-is p s = s ∙ rw (target-is p)
+    record-is p s = s ∙ rw (p, type-is)
 
   pub first-inside : {r : ℕ} → r ≡ record-of t n → (r < 32) × (r < length (column l 4))
   first-inside e =
@@ -200,7 +209,7 @@ pub size-type : (t : Words) (x : ℕ) → x < 65536 → 1 ≡ size-of t x
 unfolding size-of
 size-type t x h = rw (lt-ltb x 65536 h)
 
-module _ {t : Words} {l : List Words} {x r : ℕ} (h : Target-word t l x) (far-off : 65536 ≤ x) (e : r ≡ x - 65536) where
+module _ {t : Words} {l : List Words} {x r : ℕ} (h : Known-word known-target t l x) (far-off : 65536 ≤ x) (e : r ≡ x - 65536) where
   less : r < count t records
   less = omega (arith, known-below (h .lists .passed .types) x (h .known))
 
@@ -228,5 +237,20 @@ module _ {t : Words} {l : List Words} {x r : ℕ} (h : Target-word t l x) (far-o
       let w′ : w ≡ words-before t (first-field t r) = u ∙ rw (q, g .start) (g .before-start) in
       rw (le-ltb x 65536 far-off, ← e) (omega arith)
 
-pub size-same : {l : List Words} {x y r : ℕ} → y ≡ x → ((t : Words) → Target-word t l y → r ≡ size-of t y) → (t : Words) → Target-word t l x → r ≡ size-of t x
+pub size-same : {l : List Words} {x y r : ℕ} → y ≡ x → ((t : Words) → Known-word known-target t l y → r ≡ size-of t y) → (t : Words) → Known-word known-target t l x → r ≡ size-of t x
 size-same e h t w = rw e at (h t (rw e w))
+
+-- ---- steps
+
+pub step-word : (t : Words) (y : ℕ) → y < 2 → 1 ≡ step-of t y
+unfolding step-of points-to-record
+step-word t y h = rw (lt-leb 2 y h)
+
+-- An entry's step is the size of its target: a type is one word.
+pub step-size : (t : Words) (y : ℕ) → 2 ≤ y → size-of t (target t y) ≡ step-of t y
+unfolding step-of points-to-record
+step-size t y h = rw (le-leb 2 y h) (go (decLt (target t y) 65536))
+  where
+    go : Dec (target t y < 65536) → size-of t (target t y) ≡ (if leb 65536 (target t y) then size-of t (target t y) else 1)
+    go (yes less) = rw (lt-leb 65536 (target t y) less) (sym (size-type t (target t y) less))
+    go (no more) = rw (le-leb 65536 (target t y) (omega (arith, more)))

@@ -11,7 +11,7 @@ use lib.ListN.{getD, List·getD-eq-default}
 use Rattle.semantics.specs.Words.{Words, if_then_else_, grow}
 use Rattle.semantics.specs.Table.{nodes, item, is-pointer, pointed-record, field-offset, field-count, size-of, Kind, variable, deref, field, constant, sum, read, address, cast, size, malloc, unknown, kind-of, Sort, sort-of, node-kind, node-a, node-b, node-type}
 use Rattle.semantics.specs.Table as Table
-use Rattle.semantics.specs.Syntax.{Place, Variable, Deref, Field, Value, Number, Sum, Read, Address, Cast, Malloc, Tree, senseless, as-place, as-value, tree-by-kind, tree-rule, trees-below, tree-of, place-of, value-of}
+use Rattle.semantics.specs.Syntax.{Place, Variable, Deref, Field, Value, Number, Sum, Read, Address, Cast, Malloc, Tree, senseless, as-place, as-value, step-of, tree-by-kind, tree-rule, trees-below, tree-of, place-of, value-of}
 use Rattle.semantics.proofs.Lists.{length-grow}
 use Rattle.semantics.proofs.Trees.{trees-at}
 use Rattle.semantics.proofs.Steps.{Place-ok, variable-ok, deref-ok, field-ok, Value-ok, sum-ok, read-ok, address-ok, cast-ok, malloc-ok}
@@ -164,12 +164,15 @@ pub size-node : (t : Words) (n : ℕ) → item t nodes n 0 ≡ 9 → value-of t 
 unfolding value-of tree-of tree-rule node-kind kind-of
 size-node t n k = rw k
 
--- A field's offset and its words, and whether a cast keeps bounds.
+-- A field's offset and its words, a sum's step, and whether a cast keeps bounds.
 abbrev pub offset-of : Words → ℕ → ℕ
 offset-of t n = field-offset t (pointed-record t (node-type t (node-a t n))) (node-b t n)
 
 abbrev pub count-of : Words → ℕ → ℕ
 count-of t n = field-count t (pointed-record t (node-type t (node-a t n))) (node-b t n)
+
+abbrev pub moves-by : Words → ℕ → ℕ
+moves-by t n = step-of t (node-type t (node-a t n))
 
 abbrev pub cast-keeps : Words → ℕ → Bool
 cast-keeps t n = is-pointer (node-type t (node-a t n)) && is-pointer (node-b t n)
@@ -198,18 +201,19 @@ module _ {vars : ℕ} (t : Words) (n : ℕ) where
       inner v (field-ok some ok) = ok
 
   pub sum-node : item t nodes n 0 ≡ 5 → Value-ok vars (value-of t n)
-      → Value-child vars t n (node-a t n) × Value-child vars t n (node-b t n) × (value-of t n ≡ Sum n 1 (value-of t (node-a t n)) (value-of t (node-b t n)))
+      → Value-child vars t n (node-a t n) × Value-child vars t n (node-b t n)
+      × (value-of t n ≡ Sum n (moves-by t n) (value-of t (node-a t n)) (value-of t (node-b t n)))
   unfolding value-of tree-of tree-rule node-kind kind-of
   sum-node k h =
-      let e : value-of t n ≡ Sum n 1 (as-value (getD (trees-below t n) (node-a t n) senseless)) (as-value (getD (trees-below t n) (node-b t n) senseless)) = rw k in
+      let e : value-of t n ≡ Sum n (moves-by t n) (as-value (getD (trees-below t n) (node-a t n) senseless)) (as-value (getD (trees-below t n) (node-b t n) senseless)) = rw k in
       let l = value-child t n (node-a t n) (left (rw e at h)) in
       let r = value-child t n (node-b t n) (right (rw e at h)) in
-      (l, r, e ∙ ap₂ (Sum n 1) (l .same) (r .same))
+      (l, r, e ∙ ap₂ (Sum n (moves-by t n)) (l .same) (r .same))
     where
-      left : {v w : Value} → Value-ok vars (Sum n 1 v w) → Value-ok vars v
+      left : {step : ℕ} {v w : Value} → Value-ok vars (Sum n step v w) → Value-ok vars v
       left (sum-ok v w) = v
 
-      right : {v w : Value} → Value-ok vars (Sum n 1 v w) → Value-ok vars w
+      right : {step : ℕ} {v w : Value} → Value-ok vars (Sum n step v w) → Value-ok vars w
       right (sum-ok v w) = w
 
   pub read-node : item t nodes n 0 ≡ 6 → Value-ok vars (value-of t n)

@@ -1,11 +1,11 @@
 -- The six lists in which the evaluator reads a table that has passed the check.
 use Prim.Native.Nat.{ℕ, _+_, _*_, _≤_, _<_}
-use mathlib.Core.Bool.{true}
+use mathlib.Core.Bool.{Bool, true}
 use mathlib.Core.Path.{_≡_}
 use mathlib.Core.List.{List}
 use lib.ListN.{length}
 use Rattle.semantics.specs.Words.{Words, word}
-use Rattle.semantics.specs.Table.{records, fields, pointers, nodes, count, item, known-target, first-field, field, value, sort-of, node-kind, node-type}
+use Rattle.semantics.specs.Table.{records, fields, pointers, nodes, count, item, first-field, field, value, sort-of, node-kind, node-type}
 use Rattle.semantics.proofs.Passed.{Passed}
 use Rattle.steps.specs.Answers.{column}
 use Rattle.layout.specs.Types.{words-before, Tabulated}
@@ -53,12 +53,12 @@ pub record Field-ready (l : List Words) (n : ℕ) : Type 0 where
   pub table : Words
   pub is-field : Field-node table l n
 
--- The table has a target x.
-pub record Target-word (t : Words) (l : List Words) (x : ℕ) : Type 0 where
+-- The table has the word x, a type or a target as the test says.
+pub record Known-word (test : Words → ℕ → Bool) (t : Words) (l : List Words) (x : ℕ) : Type 0 where
   pub lists : Lists t l
-  pub known : known-target t x ≡ true
+  pub known : test t x ≡ true
 
 -- Some table with these lists has it.
-pub record Target-ready (l : List Words) (x : ℕ) : Type 0 where
+pub record Known-ready (test : Words → ℕ → Bool) (l : List Words) (x : ℕ) : Type 0 where
   pub table : Words
-  pub is-target : Target-word table l x
+  pub is-known : Known-word test table l x

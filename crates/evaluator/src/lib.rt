@@ -5,11 +5,12 @@
 ghost use mathlib.Core.Path.{_≡_};
 ghost use mathlib.Core.Bool.{true};
 ghost use mathlib.Core.List.{List, map};
-ghost use Prim.Native.Nat.{ℕ, _+_, _*_, _<_, _^_};
+ghost use Prim.Native.Nat.{ℕ, _+_, _*_, _≤_, _<_, _^_};
 ghost use lib.ListN.{length};
 ghost use Rattle.semantics.specs.Words.{Words, word};
-ghost use Rattle.semantics.specs.Table.{pointed-record, first-field, field-offset, field-count, size-of, node-a, node-b, node-type};
-ghost use Rattle.evaluator.specs.Lists.{part, Node-ready, Field-node, Field-ready, Reads-variable, Target-word, Target-ready};
+ghost use Rattle.semantics.specs.Table.{known-type, known-target, target, pointed-record, first-field, field-offset, field-count, size-of, node-a, node-b, node-type};
+ghost use Rattle.semantics.specs.Syntax.{step-of};
+ghost use Rattle.evaluator.specs.Lists.{part, Node-ready, Field-node, Field-ready, Reads-variable, Known-word, Known-ready};
 ghost use Rattle.steps.specs.Answers.{column, failed, Bounded};
 ghost use Rattle.evaluator.specs.Result.{Place-ready, Value-ready, Pointed-ready, Place-answered, Value-answered, Assigned-answered};
 use layout::Table;
@@ -60,12 +61,20 @@ pub fn type_of(l: &[&[u32]; 6], n: usize) -> u32
     entry(l, 1, n)
 }
 
+// What this pointer type, an entry, points to.
+fn target(l: &[&[u32]; 6], of: u32) -> u32
+    requires { ⌜ (Known-ready known-type (map (λ x. now x) (now l)) of) × (2 ≤ of) ⌝ }
+    ensures { λ r. ⌜ ((t : Words) → Known-word known-type t (map (λ x. now x) (now (l .entry))) of → r ≡ target t of) ⌝ }
+{
+    entry(l, 2, index(of) - 2)
+}
+
 // The record that the child of node n, a field, points to.
 fn record(l: &[&[u32]; 6], n: usize) -> usize
     requires { ⌜ Field-ready (map (λ x. now x) (now l)) n ⌝ }
     ensures { λ r. ⌜ ((t : Words) → Field-node t (map (λ x. now x) (now (l .entry))) n → r ≡ pointed-record t (node-type t (node-a t n))) ⌝ }
 {
-    index(entry(l, 2, index(type_of(l, child(l, n, 1))) - 2) - Table::RECORD)
+    index(target(l, type_of(l, child(l, n, 1))) - Table::RECORD)
 }
 
 // That record's first field.
@@ -95,8 +104,8 @@ fn count(l: &[&[u32]; 6], n: usize) -> u32
 
 // The words of a record, or of a type.
 fn size_of(l: &[&[u32]; 6], x: u32) -> u32
-    requires { ⌜ Target-ready (map (λ x. now x) (now l)) x ⌝ }
-    ensures { λ r. ⌜ ((t : Words) → Target-word t (map (λ x. now x) (now (l .entry))) x → r ≡ size-of t x) ⌝ }
+    requires { ⌜ Known-ready known-target (map (λ x. now x) (now l)) x ⌝ }
+    ensures { λ r. ⌜ ((t : Words) → Known-word known-target t (map (λ x. now x) (now (l .entry))) x → r ≡ size-of t x) ⌝ }
 {
     if x < Table::RECORD {
         return 1;
@@ -105,11 +114,22 @@ fn size_of(l: &[&[u32]; 6], x: u32) -> u32
     entry(l, 5, index(entry(l, 4, r + 1))) - entry(l, 5, index(entry(l, 4, r)))
 }
 
+// The words by which 1 moves a value of this type: those of the record that it points to, else one.
+fn step(l: &[&[u32]; 6], of: u32) -> u32
+    requires { ⌜ Known-ready known-type (map (λ x. now x) (now l)) of ⌝ }
+    ensures { λ r. ⌜ ((t : Words) → Known-word known-type t (map (λ x. now x) (now (l .entry))) of → r ≡ step-of t of) ⌝ }
+{
+    if of < 2 {
+        return 1;
+    }
+    size_of(l, target(l, of))
+}
+
 // The size that node n asks for, a number.
 fn size(l: &[&[u32]; 6], n: usize, s: &mut [u32; 3]) -> u64
     requires { ⌜ (n < 512) × (n * 3 + 1 < length (column (map (λ x. now x) (now l)) 0)) × (length (now s) ≡ 3) ⌝ }
-    requires { ⌜ Target-ready (map (λ x. now x) (now l)) (part (map (λ x. now x) (now l)) n 1) ⌝ }
-    ensures { λ r. ⌜ ((t : Words) → Target-word t (map (λ x. now x) (now (l .entry))) (part (map (λ x. now x) (now (l .entry))) n 1) → r ≡ size-of t (part (map (λ x. now x) (now (l .entry))) n 1)) ⌝ }
+    requires { ⌜ Known-ready known-target (map (λ x. now x) (now l)) (part (map (λ x. now x) (now l)) n 1) ⌝ }
+    ensures { λ r. ⌜ ((t : Words) → Known-word known-target t (map (λ x. now x) (now (l .entry))) (part (map (λ x. now x) (now (l .entry))) n 1) → r ≡ size-of t (part (map (λ x. now x) (now (l .entry))) n 1)) ⌝ }
     ensures { λ r. ⌜ (r < failed) × (Bounded 0 0 (now (s .entry)) (now (s .exit))) ⌝ }
 {
     bound(0, 0, s);
@@ -180,19 +200,21 @@ pub fn value(l: &[&[u32]; 6], m: &[&[u32]; 3], n: usize, s: &mut [u32; 3]) -> u6
     match item(l, n, 0) {
         4 => number(item(l, n, 1), s),
         5 => {
-            let v = value(l, m, child(l, n, 1), s);
+            let a = child(l, n, 1);
+            let v = value(l, m, a, s);
             if FAILED <= v {
                 return v;
             }
+            let by = step(l, type_of(l, a));
             let c = child(l, n, 2);
             if item(l, c, 0) == 4 {
-                return sum(v, long(item(l, c, 1)));
+                return sum(v, by, long(item(l, c, 1)));
             }
             let b = s[0];
             let e = s[1];
             let w = value(l, m, c, s);
             bound(b, e, s);
-            sum(v, w)
+            sum(v, by, w)
         }
         6 => {
             let c = child(l, n, 1);

@@ -1,5 +1,5 @@
--- Document 01's refusal examples, starred runs and routine A as one table each, and registers beside them: what is called, and what must be
--- answered. proofs/Examples.antt computes the tables.
+-- Document 01's refusal examples, starred runs and routine A as one table each, and registers and steps along records beside them: what
+-- is called, and what must be answered. proofs/Examples.antt computes the tables.
 use Prim.Native.Nat.{ℕ, _+_, _-_, _/_}
 use mathlib.Core.List.{List, [], _∷_, _++_}
 use lib.ListN.{length, replicate}
@@ -222,4 +222,61 @@ register-runs =
     (ending done 6) (bounded 4 4 6 ∷ bounded 3 3 4 ∷ unbounded 70 ∷ unbounded 0 ∷ unbounded 0 ∷ [])
     ∷ on-registers (1 ∷ 1 ∷ 1 ∷ 70 ∷ []) 5 (malloc-to-p 2) (0 ∷ 3 ∷ [])
     (ending (out-of-memory 0) 4) (unbounded 0 ∷ bounded 3 3 4 ∷ unbounded 70 ∷ [])
+    ∷ []
+
+-- ---- Request 2
+
+-- Routine A's record (pointer to it: type 2) in memory of 11 words, with two variables: p, a pointer to the record, at the first of two
+-- such records in words 3 to 10, and the int i. Nodes 0 to 3 and command 0 obtain the records. Pointer to int is type 3, pointer to
+-- pointer to the record type 4. ns are the nodes from 4 on, and command 1 is this place and this value.
+on-records : Words → ℕ → ℕ → Answer → List Datum → Example
+on-records ns place value a m =
+    record {
+      table =
+          1 ∷ 2
+          ∷ 2 ∷ 0 ∷ 2 ∷ 0 ∷ 2
+          ∷ 3 ∷ 65536 ∷ 0 ∷ 2
+          ∷ 2 ∷ 2 ∷ 0
+          ∷ (4 + length ns / 3) ∷ malloc-to-p 8 ++ ns
+          ++ (2 ∷ 0 ∷ 3 ∷ place ∷ value ∷ []);
+      inputs = 0 ∷ 0 ∷ [];
+      registers = no-registers;
+      length = 11;
+      verdict = passes;
+      answer = a;
+      memory = m;
+    }
+
+-- i = (int)((ty)p + k)
+step-by : ℕ → ℕ → ℕ → Example
+step-by ty k i =
+    on-records (1 ∷ 1 ∷ 0 ∷ 1 ∷ 0 ∷ 0 ∷ 6 ∷ 5 ∷ 0 ∷ 8 ∷ 6 ∷ ty ∷ 4 ∷ k ∷ 0 ∷ 5 ∷ 7 ∷ 8 ∷ 8 ∷ 9 ∷ 0 ∷ []) 4 10
+    (ending done 11) (bounded 3 3 11 ∷ unbounded i ∷ replicate 8 (unbounded 0))
+
+-- (p + k)->queue = 9: of the queue its first word is assigned to
+store-in-queue : ℕ → Answer → List Datum → Example
+store-in-queue k a m =
+    on-records (1 ∷ 0 ∷ 0 ∷ 6 ∷ 4 ∷ 0 ∷ 4 ∷ k ∷ 0 ∷ 5 ∷ 5 ∷ 6 ∷ 3 ∷ 7 ∷ 1 ∷ 4 ∷ 9 ∷ 0 ∷ []) 8 9
+    a (bounded 3 3 11 ∷ unbounded 0 ∷ m)
+
+unfoldable pub record-runs : List Example
+unfolding no-registers bounded malloc-to-p on-records step-by store-in-queue
+record-runs =
+    -- "With routine A's record, p + 1 is four words on"
+    step-by 2 1 7
+    -- a number near 2^32 moves back; of the product 4,294,967,300 its excess over 2^32 counts
+    ∷ step-by 2 4294967295 4294967295
+    ∷ step-by 2 1073741825 7
+    -- as void*, int*, pointer to pointer to the record, and int: one word
+    ∷ step-by 1 1 4
+    ∷ step-by 3 1 4
+    ∷ step-by 4 1 4
+    ∷ step-by 0 1 4
+    -- the second record's queue is reached, also by a product that wraps; there is no third record
+    ∷ store-in-queue 1 (ending done 11) (replicate 6 (unbounded 0) ++ (unbounded 9 ∷ unbounded 0 ∷ []))
+    ∷ store-in-queue 1073741825 (ending done 11) (replicate 6 (unbounded 0) ++ (unbounded 9 ∷ unbounded 0 ∷ []))
+    ∷ store-in-queue 2 (ending (abort 1) 11) (replicate 8 (unbounded 0))
+    -- p = (record*)((int*)(p + 1) + 2): the step goes by the left operand's type, and bounds are kept
+    ∷ on-records (1 ∷ 0 ∷ 0 ∷ 1 ∷ 0 ∷ 0 ∷ 6 ∷ 5 ∷ 0 ∷ 4 ∷ 1 ∷ 0 ∷ 5 ∷ 6 ∷ 7 ∷ 8 ∷ 8 ∷ 3 ∷ 4 ∷ 2 ∷ 0 ∷ 5 ∷ 9 ∷ 10 ∷ 8 ∷ 11 ∷ 2 ∷ []) 4 12
+    (ending done 11) (bounded 9 3 11 ∷ unbounded 0 ∷ replicate 8 (unbounded 0))
     ∷ []

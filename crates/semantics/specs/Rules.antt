@@ -113,7 +113,8 @@ read-step pointer l s =
 abbrev pub address-step : Location → State → Outcome Datum
 address-step l s = ok (record { value = l .at; base = l .base; end = l .end }) s
 
--- "Sum: modulo 4,294,967,296. A sum of a pointer and a number moves the pointer .. and keeps its bounds."
+-- "Sum: modulo 4,294,967,296. A sum of a pointer and a number moves the pointer .. and keeps its bounds." Request 2: by "that number
+-- times the record's size, modulo 4,294,967,296"
 abbrev pub sum-step : ℕ → Datum → Datum → State → Outcome Datum
 sum-step step p x s = ok (record { value = (p .value + step * x .value) % 4294967296; base = p .base; end = p .end }) s
 

@@ -4,8 +4,8 @@ use Prim.Native.Nat.{ℕ}
 use mathlib.Core.Bool.{Bool, _&&_}
 use mathlib.Core.List.{List}
 use lib.ListN.{getD}
-use Rattle.semantics.specs.Words.{Words, grow}
-use Rattle.semantics.specs.Table.{is-pointer, pointed-record, field-offset, field-count, size-of, Kind, variable, deref, field, constant, sum, read, address, cast, size, malloc, unknown, node-kind, node-a, node-b, node-type}
+use Rattle.semantics.specs.Words.{Words, if_then_else_, grow}
+use Rattle.semantics.specs.Table.{is-pointer, target, points-to-record, pointed-record, field-offset, field-count, size-of, Kind, variable, deref, field, constant, sum, read, address, cast, size, malloc, unknown, node-kind, node-a, node-b, node-type}
 
 -- Each constructor begins with its node's number.
 mutual
@@ -44,9 +44,10 @@ as-value (place p) = NoValue
 as-value (value v) = v
 as-value senseless = NoValue
 
--- "A sum of a pointer and a number moves the pointer by that many words, whichever type it points to"
-abbrev pub step-of : Words → ℕ → ℕ
-step-of t ty = 1
+-- Request 2: "a number added to a pointer to a record moves it by that number times the record's size .. Pointers to void and to
+-- one-word types still move by words." An int does too: "Sum: modulo 4,294,967,296."
+unfoldable pub step-of : Words → ℕ → ℕ
+step-of t ty = if points-to-record t ty then size-of t (target t ty) else 1
 
 -- The tree of node n of this kind with these two other words, from the trees of the nodes before it.
 -- A child that isn't before it has no tree there.

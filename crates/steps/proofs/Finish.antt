@@ -1,6 +1,6 @@
 -- What the functions that finish a node answer is what the rules' steps give.
-use Prim.Native.Nat.{ℕ, _+_, _%_, _≤_, _<_}
-use native.Mathlib.Nat.{one-mul}
+use Prim.Native.Nat.{ℕ, _+_, _*_, _%_, _≤_, _<_, _^_}
+use native.Mathlib.Nat.{lt-of-le-of-lt, le-of-lt, mul-le-mul-left, mul-lt-mul-of-pos-right}
 use mathlib.Core.Bool.{Bool, true, false, _&&_}
 use mathlib.Core.Path.{_≡_, refl, sym, _∙_}
 use mathlib.Core.List.{List}
@@ -119,15 +119,19 @@ field-no {o} {k} {v} {b} {e} {w} {x} under wo xk tested passed =
 
 -- ---- values
 
-pub sum-ended : {v w : ℕ} → failed ≤ w → Sum-answered v w w
-sum-ended over = record { meets = λ p b e b₂ e₂ m u o hv hb he a. passed-on b e (sum-step 1 p) over a }
+-- A product of two words fits in 64 bits.
+pub product-fits : {a b : ℕ} → a < 2 ^ 32 → b < 2 ^ 32 → a * b < 2 ^ 64
+product-fits {a} ha hb = lt-of-le-of-lt (mul-le-mul-left a (le-of-lt hb)) (mul-lt-mul-of-pos-right ha (omega arith))
 
-pub sum-done : {v w r : ℕ} → w < failed → r ≡ (v + w) % 4294967296 → r < failed → Sum-answered v w r
-sum-done {v} {w} {r} under h small =
+pub sum-ended : {step v w : ℕ} → failed ≤ w → Sum-answered step v w w
+sum-ended {step} over = record { meets = λ p b e b₂ e₂ m u o hv hb he a. passed-on b e (sum-step step p) over a }
+
+pub sum-done : {step v w r : ℕ} → w < failed → r ≡ (v + step * w % 4294967296) % 4294967296 → r < failed → Sum-answered step v w r
+sum-done {step} {v} {w} {r} under h small =
     record {
       meets = λ p b e b₂ e₂ m u o hv hb he a.
-          goes-on (sum-step 1 p) under a
-          (λ x log hw _ _. answers-ok _ log (rw (hv, hw, one-mul w) (sym h)) hb he small);
+          goes-on (sum-step step p) under a
+          (λ x log hw _ _. answers-ok _ log (rw (hv, hw) (omega (arith, h))) hb he small);
     }
 
 -- A place that may be touched has a rule.

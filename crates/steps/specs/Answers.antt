@@ -64,9 +64,9 @@ pub record Field-answered (offset words v b e r b′ e′ : ℕ) : Type 0 where
   pub meets : (n : ℕ) (m : List Words) (u : ℕ) (o : Outcome Datum) → Datum-answers m v b e u o
       → Location-answers m r b′ e′ u (bind o (field-step n offset words))
 
-pub record Sum-answered (v w r : ℕ) : Type 0 where
+pub record Sum-answered (step v w r : ℕ) : Type 0 where
   pub meets : (p : Datum) (b e b₂ e₂ : ℕ) (m : List Words) (u : ℕ) (o : Outcome Datum) → p .value ≡ v → p .base ≡ b → p .end ≡ e
-      → Datum-answers m w b₂ e₂ u o → Datum-answers m r b e u (bind o (sum-step 1 p))
+      → Datum-answers m w b₂ e₂ u o → Datum-answers m r b e u (bind o (sum-step step p))
 
 -- The place read may be touched: that is what the invariant gives.
 pub record Load-answered (pointer : ℕ) (m : List Words) (at r b′ e′ : ℕ) : Type 0 where

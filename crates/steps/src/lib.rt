@@ -16,6 +16,9 @@ pub const FAILED: u64 = 4294967296;
 
 const FULL: u64 = 4294967297;
 
+// How many words there are: sums wrap there.
+const WORDS: u64 = 4294967296;
+
 // Word w of list j of the memory.
 fn cell(m: &[&[u32]; 3], j: usize, w: usize) -> u32
     requires { ⌜ (j < 3) × (w < 2 ^ 32) × (w < length (column (map (λ x. now x) (now m)) j)) ⌝ }
@@ -103,15 +106,16 @@ pub fn field(v: u64, offset: u32, count: u32, s: &mut [u32; 3]) -> u64
     FAILED
 }
 
-// A sum, modulo 2^32.
-pub fn sum(v: u64, w: u64) -> u64
+// v moved by w steps, modulo 2^32. The product is exact in 64 bits before it is cut.
+pub fn sum(v: u64, step: u32, w: u64) -> u64
     requires { ⌜ v < failed ⌝ }
-    ensures { λ r. ⌜ Sum-answered v w r ⌝ }
+    ensures { λ r. ⌜ Sum-answered step v w r ⌝ }
 {
     if FAILED <= w {
         return w;
     }
-    long(std::num::wrapping_add_u32(low(v), low(w)))
+    let moved = low(long(step) * w % WORDS);
+    long(std::num::wrapping_add_u32(low(v), moved))
 }
 
 // The word at a place, with its bounds where its type is a pointer's.

@@ -8,6 +8,7 @@ mod random;
 mod registers;
 mod routine;
 mod soup;
+mod steps;
 mod types;
 
 use crate::text::{Call, Case};

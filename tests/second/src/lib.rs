@@ -1,6 +1,6 @@
-//! A second, separately written implementation of document 01 with request 1
-//! (registers handed in): the machine, the text of recorded cases, and a
-//! generator of cases.
+//! A second, separately written implementation of document 01 with requests 1
+//! (registers handed in) and 2 (a step is a record): the machine, the text of
+//! recorded cases, and a generator of cases.
 
 #![forbid(unsafe_code)]
 

@@ -1,5 +1,5 @@
-//! The check and the run of document 01, with registers handed in. No input or
-//! output happens here.
+//! The check and the run of document 01, with registers handed in and with
+//! steps by records. No input or output happens here.
 //!
 //! [`check`] judges a table alone. [`run`] is the whole call: the check, the
 //! conditions on the call (10, 11, 13 to 15), then the routine. Both work in

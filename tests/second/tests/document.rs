@@ -342,10 +342,10 @@ fn limits() {
 fn sums_of_checks_are_exact() {
     let head = "1 2 | 2 0 4 0 4096 | 2 65536 0 | 1 2 |";
     let block = "1 0 0 4 4 0 10 1 0 8 2 2";
-    // ((record*)p + n)->field, p at 2 with bounds [2, 6)
+    // ((record*)((void*)p + n))->field, p at 2 with bounds [2, 6)
     for (n, field) in [(u32::MAX, 0), (u32::MAX - 2, 0), (u32::MAX - 5, 1)] {
-        let text =
-            format!("{head} 10 {block} 1 0 0 6 4 0 4 {n} 0 5 5 6 3 7 {field} 4 1 0 | 2 0 3 8 9");
+        let moved = format!("1 0 0 6 4 0 8 5 1 4 {n} 0 5 6 7 8 8 2");
+        let text = format!("{head} 12 {block} {moved} 3 9 {field} 4 1 0 | 2 0 3 10 11");
         let ran = without_registers(&words(&text), &[0], 8);
         assert_eq!(ran.answer, abort(1, 6));
     }

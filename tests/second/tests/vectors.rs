@@ -1,5 +1,9 @@
 //! The recorded cases, line by line, from the folder that VECTORS names.
 
+mod by_words;
+mod plain;
+
+use by_words::by_words;
 use second::text::{Answerer, Case};
 use std::path::{Path, PathBuf};
 
@@ -11,8 +15,9 @@ fn folder() -> Option<PathBuf> {
     folder
 }
 
-/// Answers the cases of a name, each as `change` makes it.
-fn agree(folder: &Path, name: &str, change: fn(&[u8]) -> Vec<u8>) {
+/// Answers the cases of a name, each as `change` makes it; of a hundred, five
+/// at most may be left out.
+fn agree(folder: &Path, name: &str, change: fn(&[u8]) -> Option<Vec<u8>>) {
     let read = |ending: &str| {
         let file = format!("{name}.{ending}");
         std::fs::read(folder.join(&file)).expect(&file)
@@ -22,36 +27,52 @@ fn agree(folder: &Path, name: &str, change: fn(&[u8]) -> Vec<u8>) {
     assert_eq!(cases.len(), answers.len());
     let mut answerer = Answerer::default();
     let mut out = Vec::new();
+    let mut compared = 0;
     for (i, (case, expected)) in cases.iter().zip(&answers).enumerate() {
+        let Some(case) = change(case) else {
+            continue;
+        };
         out.clear();
-        answerer.answer(&change(case), &mut out);
+        answerer.answer(&case, &mut out);
         let answer = String::from_utf8_lossy(&out);
         let expected = String::from_utf8_lossy(expected);
         assert_eq!(answer.trim_end(), expected, "{name}, line {}", i + 1);
+        compared += 1;
     }
-    println!("{} recorded cases agree", cases.len());
+    println!("{compared} of {} cases of {name} agree", cases.len());
+    assert!(compared * 100 >= cases.len() * 95);
+}
+
+/// Cases recorded before steps by records are answered as they were once each
+/// step goes by words. None where that makes a table too large.
+fn before_steps(line: &[u8], change: fn(&mut Case)) -> Option<Vec<u8>> {
+    let mut case = Case::default();
+    case.read(line).expect("a case");
+    change(&mut case);
+    by_words(&case)
 }
 
 #[test]
-fn cases_with_registers_agree() {
+fn cases_with_steps_by_records_agree() {
     if let Some(folder) = folder() {
-        agree(&folder, "cr1", <[u8]>::to_vec);
+        agree(&folder, "cr2", |line| Some(line.to_vec()));
     }
 }
 
-/// Cases recorded before there were registers have no list. With the list `0`
-/// they are answered as they were.
 #[test]
-fn cases_of_the_base_agree_with_no_registers() {
+fn cases_with_registers_agree_by_words() {
+    if let Some(folder) = folder() {
+        agree(&folder, "cr1", |line| before_steps(line, |_| ()));
+    }
+}
+
+/// Those recorded before there were registers have no list, and are answered
+/// as they were with the list `0`.
+#[test]
+fn cases_of_the_base_agree_by_words_with_no_registers() {
     if let Some(folder) = folder() {
         agree(&folder, "base", |line| {
-            let mut case = Case::default();
-            case.read(line).expect("a case");
-            case.registers = vec![0];
-            let mut line = Vec::new();
-            case.write(&mut line);
-            line.pop();
-            line
+            before_steps(line, |case| case.registers = vec![0])
         });
     }
 }

@@ -22,6 +22,7 @@ use Rattle.steps.proofs.number.Reads as number-reads
 use Rattle.evaluator.proofs.pointed.Reads as pointed-reads
 use Rattle.evaluator.proofs.read_variable.Reads as read-variable-reads
 use Rattle.evaluator.proofs.size.Reads as size-reads
+use Rattle.evaluator.proofs.step.Reads as step-reads
 use Rattle.steps.proofs.sum.Reads as sum-reads
 use Rattle.evaluator.proofs.type_of.Reads as type-of-reads
 use Rattle.steps.proofs.variable.Reads as variable-reads
@@ -29,7 +30,7 @@ use Rattle.steps.proofs.words.Reads as words-reads
 use Rattle.layout.proofs.long.Reads as long-reads
 use Rattle.evaluator.proofs.+place+value.{statement}
 use Rattle.evaluator.proofs.+place+value.Tie.{close}
-use Rattle.evaluator.proofs.Evaluation.{falls-to, falls-through, pointed-ready, reads, malloc-item, malloc-constant-answer, place-item, variable-small, child-ready, value-item, value-type, sum-ready, right-item, right-ready, read-ready, read-item, read-inside, address-ready, cast-ready, cast-type, size-ready, malloc-kind, malloc-ready, variable-answer, constant-answer, size-answer, sum-ended-answer, sum-answer, sum-constant-answer, read-answer, address-answer, cast-answer, malloc-answer}
+use Rattle.evaluator.proofs.Evaluation.{falls-to, falls-through, pointed-ready, reads, malloc-item, malloc-constant-answer, place-item, variable-small, child-ready, value-item, value-type, sum-ready, left-type, step-ready, right-item, right-ready, read-ready, read-item, read-inside, address-ready, cast-ready, cast-type, size-ready, malloc-kind, malloc-ready, variable-answer, constant-answer, size-answer, sum-ended-answer, sum-answer, sum-constant-answer, read-answer, address-answer, cast-answer, malloc-answer}
 
 abbrev μ-place : Measures 5 place-kinds.ps ℕ
 μ-place κs a = a .1 .1 .0
@@ -72,24 +73,26 @@ pub +place+value-spec : {M : Type 1} → statement M
     (λ c κs. (c .before .before .place .ensures .room, read-inside (child-ready (c .before .before .before .before .before .before .before .before .before .before .before .before .pre .1) (c .before .before .before .before .before .before .before .before .before .before .before .item .ensures) (c .before .before .before .before .before .before .before .before .before .before .if1 .left) (c .before .before .before .before .before .before .before .before .before .child .ensures) .1) (c .before .before .before .before .before .before .before .before .item3 .ensures) (c .before .before .before .before .before .before .child2 .ensures) (c .before .before .before .before .before .before .before .if2 .left) (c .before .before .place .ensures)))
     (λ c κs. pointed-ready (c .before .before .before .before .before .before .before .before .before .before .before .before .before .before .pre .1) (c .before .before .before .before .before .before .before .before .before .before .before .before .before .item .ensures) (c .before .before .before .before .before .before .before .before .before .before .before .before .if1 .left) (read-answer (c .before .before .before .before .before .before .before .before .before .before .item3 .ensures) (c .before .before .before .before .before .before .before .before .child2 .ensures) (c .before .before .before .before .before .before .before .before .before .if2 .left) (c .before .before .before .type-of .ensures) (c .before .before .before .before .place .ensures) (c .before .load .ensures .0) (c .before .load .ensures .1)))
     (λ c. c .pointed3 .ensures _ _ _ (read-answer (c .before .before .before .before .before .before .before .before .before .before .before .item3 .ensures) (c .before .before .before .before .before .before .before .before .before .child2 .ensures) (c .before .before .before .before .before .before .before .before .before .before .if2 .left) (c .before .before .before .before .type-of .ensures) (c .before .before .before .before .before .place .ensures) (c .before .before .load .ensures .0) (c .before .before .load .ensures .1)) (c .before .before .before .before .before .before .before .before .before .before .before .before .before .before .item .ensures) (c .before .before .before .before .before .before .before .before .before .before .before .before .child .ensures)))
-    (λ t. value-lts.spec (item-reads.Asked, item-reads.Learnt, number-reads.Asked, number-reads.Learnt, child-reads.Asked, child-reads.Learnt, value-below t, value.Post, long-reads.Asked, long-reads.Learnt, sum-reads.Asked, sum-reads.Learnt, bound-reads.Asked, bound-reads.Learnt, read-variable-reads.Asked, read-variable-reads.Learnt, place-below t, place.Post, type-of-reads.Asked, type-of-reads.Learnt, load-reads.Asked, load-reads.Learnt, keeps-reads.Asked, keeps-reads.Learnt, cast-reads.Asked, cast-reads.Learnt, size-reads.Asked, size-reads.Learnt, words-reads.Asked, words-reads.Learnt, allocate-reads.Asked, allocate-reads.Learnt) (value-at t) value.Post
+    (λ t. value-lts.spec (item-reads.Asked, item-reads.Learnt, number-reads.Asked, number-reads.Learnt, child-reads.Asked, child-reads.Learnt, value-below t, value.Post, type-of-reads.Asked, type-of-reads.Learnt, step-reads.Asked, step-reads.Learnt, long-reads.Asked, long-reads.Learnt, sum-reads.Asked, sum-reads.Learnt, bound-reads.Asked, bound-reads.Learnt, read-variable-reads.Asked, read-variable-reads.Learnt, place-below t, place.Post, load-reads.Asked, load-reads.Learnt, keeps-reads.Asked, keeps-reads.Learnt, cast-reads.Asked, cast-reads.Learnt, size-reads.Asked, size-reads.Learnt, words-reads.Asked, words-reads.Learnt, allocate-reads.Asked, allocate-reads.Learnt) (value-at t) value.Post
     (λ c κs. value-item (c .pre .1) 0 (omega arith))
     (λ c κs. value-item (c .before .before .pre .1) 1 (omega arith))
     (λ c κs. c .before .before .before .before .pre .1 .room)
     (λ c κs. value-item (c .before .before .pre .1) 1 (omega arith))
     (λ c κs. falls-to (c .before .before .before .before .pre .0) (sum-ready (c .before .before .before .before .pre .1) (c .before .before .before .item .ensures) (c .before .child .ensures) (c .before .before .match .keys2)))
     (λ c. sum-ended-answer (c .before .before .before .before .before .item .ensures) (c .before .before .before .child .ensures) (c .before .before .before .before .match .keys2) (c .before .value .ensures) (c .if1 .taken))
-    (λ c κs. value-item (c .before .before .before .before .before .before .pre .1) 2 (omega arith))
-    (λ c κs. right-item (c .before .before .before .before .before .before .before .pre .1) (c .before .before .before .before .before .before .item .ensures) (c .before .before .before .before .child .ensures) (c .child2 .ensures) (c .before .before .before .before .before .match .keys2) 0 (omega arith))
-    (λ c κs. right-item (c .before .before .before .before .before .before .before .before .before .pre .1) (c .before .before .before .before .before .before .before .before .item .ensures) (c .before .before .before .before .before .before .child .ensures) (c .before .before .child2 .ensures) (c .before .before .before .before .before .before .before .match .keys2) 1 (omega arith))
+    (λ c κs. left-type (c .before .before .before .before .before .before .pre .1) (c .before .before .before .before .before .item .ensures) (c .before .before .before .child .ensures) (c .before .before .before .before .match .keys2))
+    (λ c κs. step-ready (c .before .before .before .before .before .before .before .pre .1) (c .before .before .before .before .before .before .item .ensures) (c .before .before .before .before .child .ensures) (c .before .before .before .before .before .match .keys2) (c .type-of .ensures))
+    (λ c κs. value-item (c .before .before .before .before .before .before .before .before .pre .1) 2 (omega arith))
+    (λ c κs. right-item (c .before .before .before .before .before .before .before .before .before .pre .1) (c .before .before .before .before .before .before .before .before .item .ensures) (c .before .before .before .before .before .before .child .ensures) (c .child2 .ensures) (c .before .before .before .before .before .before .before .match .keys2) 0 (omega arith))
+    (λ c κs. right-item (c .before .before .before .before .before .before .before .before .before .before .before .pre .1) (c .before .before .before .before .before .before .before .before .before .before .item .ensures) (c .before .before .before .before .before .before .before .before .child .ensures) (c .before .before .child2 .ensures) (c .before .before .before .before .before .before .before .before .before .match .keys2) 1 (omega arith))
     (λ c κs. search needs)
-    (λ c κs. c .before .before .before .before .before .if1 .left)
-    (λ c. sum-constant-answer (c .before .before .before .before .before .before .before .before .before .before .before .item .ensures) (c .before .before .before .before .before .before .before .before .before .child .ensures) (c .before .before .before .before .before .before .before .before .before .before .match .keys2) (c .before .before .before .before .before .child2 .ensures) (c .before .before .before .before .before .before .before .value .ensures) (c .before .before .before .before .before .before .if1 .left) (c .before .before .before .before .item3 .ensures) (c .before .before .before .if2 .taken) (c .before .before .item4 .ensures) (c .before .long .ensures .0) (c .before .long .ensures .1) (c .sum .ensures))
+    (λ c κs. c .before .before .before .before .before .before .before .if1 .left)
+    (λ c. sum-constant-answer (c .before .before .before .before .before .before .before .before .before .before .before .before .before .item .ensures) (c .before .before .before .before .before .before .before .before .before .before .before .child .ensures) (c .before .before .before .before .before .before .before .before .before .before .before .before .match .keys2) (c .before .before .before .before .before .child2 .ensures) (c .before .before .before .before .before .before .before .before .before .value .ensures) (c .before .before .before .before .before .before .before .before .if1 .left) (c .before .before .before .before .before .before .before .type-of .ensures) (c .before .before .before .before .before .before .step .ensures) (c .before .before .before .before .item3 .ensures) (c .before .before .before .if2 .taken) (c .before .before .item4 .ensures) (c .before .long .ensures .0) (c .before .long .ensures .1) (c .sum .ensures))
     (λ c. search needs)
     (λ c. search needs)
-    (λ c κs. falls-to (c .before .before .before .before .before .before .before .before .before .before .before .before .pre .0) (right-ready (c .before .before .before .before .before .before .before .before .before .before .before .before .pre .1) (c .before .before .before .before .before .before .before .before .before .before .before .item .ensures) (c .before .before .before .before .before .before .before .before .before .child .ensures) (c .before .before .before .before .before .child2 .ensures) (c .before .before .before .before .before .before .before .before .before .before .match .keys2) (c .before .before .before .before .before .before .before .value .ensures) (c .before .before .before .before .before .before .if1 .left)))
+    (λ c κs. falls-to (c .before .before .before .before .before .before .before .before .before .before .before .before .before .before .pre .0) (right-ready (c .before .before .before .before .before .before .before .before .before .before .before .before .before .before .pre .1) (c .before .before .before .before .before .before .before .before .before .before .before .before .before .item .ensures) (c .before .before .before .before .before .before .before .before .before .before .before .child .ensures) (c .before .before .before .before .before .child2 .ensures) (c .before .before .before .before .before .before .before .before .before .before .before .before .match .keys2) (c .before .before .before .before .before .before .before .before .before .value .ensures) (c .before .before .before .before .before .before .before .before .if1 .left)))
     (λ c κs. c .before .value2 .ensures .room)
-    (λ c κs. c .before .before .before .before .before .before .before .before .before .if1 .left)
+    (λ c κs. c .before .before .before .before .before .before .before .before .before .before .before .if1 .left)
     (λ c κs. value-item (c .before .before .pre .1) 1 (omega arith))
     (λ c κs. read-item (c .before .before .before .pre .1) (c .before .before .item .ensures) (c .child3 .ensures) (c .before .match .keys3) 0 (omega arith))
     (λ c κs. (c .before .before .before .before .before .before .pre .1, reads (c .before .before .before .before .before .item .ensures) (c .before .before .before .before .match .keys3) (c .before .before .before .child3 .ensures) (c .before .before .item5 .ensures) (c .before .if3 .taken)))
@@ -117,9 +120,9 @@ pub +place+value-spec : {M : Type 1} → statement M
     (λ c κs. search needs)
     (λ c κs. (omega (arith, c .before .words2 .ensures, c .before .before .before .before .before .before .before .before .before .pre .1 .state .most), c .before .before .value4 .ensures .room))
     (λ c. constant-answer (c .before .before .before .before .item .ensures) (c .before .before .item2 .ensures) (c .before .before .before .match .keys1) (c .number .ensures .0) (c .number .ensures .1) (c .number .ensures .2))
-    (λ c. sum-answer (c .before .before .before .before .before .before .before .before .before .before .before .before .before .before .before .item .ensures) (c .before .before .before .before .before .before .before .before .before .before .before .before .before .child .ensures) (c .before .before .before .before .before .before .before .before .before .before .before .before .before .before .match .keys2) (c .before .before .before .before .before .before .before .before .before .child2 .ensures) (c .before .before .before .before .before .before .before .before .before .before .before .value .ensures) (c .before .before .before .before .before .before .before .before .before .before .if1 .left) (c .before .before .before .value2 .ensures) (c .sum2 .ensures) (c .before .bound .ensures))
-    (λ c. read-answer (c .before .before .before .before .before .before .before .before .before .item .ensures) (c .before .before .before .before .before .before .before .child3 .ensures) (c .before .before .before .before .before .before .before .before .match .keys3) (c .before .before .type-of .ensures) (c .before .before .before .place .ensures) (c .load .ensures .0) (c .load .ensures .1))
+    (λ c. sum-answer (c .before .before .before .before .before .before .before .before .before .before .before .before .before .before .before .before .before .item .ensures) (c .before .before .before .before .before .before .before .before .before .before .before .before .before .before .before .child .ensures) (c .before .before .before .before .before .before .before .before .before .before .before .before .before .before .before .before .match .keys2) (c .before .before .before .before .before .before .before .before .before .child2 .ensures) (c .before .before .before .before .before .before .before .before .before .before .before .before .before .value .ensures) (c .before .before .before .before .before .before .before .before .before .before .before .before .if1 .left) (c .before .before .before .before .before .before .before .before .before .before .before .type-of .ensures) (c .before .before .before .before .before .before .before .before .before .before .step .ensures) (c .before .before .before .value2 .ensures) (c .sum2 .ensures) (c .before .bound .ensures))
+    (λ c. read-answer (c .before .before .before .before .before .before .before .before .before .item .ensures) (c .before .before .before .before .before .before .before .child3 .ensures) (c .before .before .before .before .before .before .before .before .match .keys3) (c .before .before .type-of2 .ensures) (c .before .before .before .place .ensures) (c .load .ensures .0) (c .load .ensures .1))
     (λ c. address-answer (c .before .before .before .before .item .ensures) (c .before .before .child4 .ensures) (c .before .before .before .match .keys4) (c .place2 .ensures))
-    (λ c. cast-answer (c .before .before .before .before .before .before .before .before .before .item .ensures) (c .before .before .before .before .before .before .before .child5 .ensures) (c .before .before .before .before .before .before .before .before .match .keys5) (c .before .before .before .before .type-of2 .ensures) (c .before .before .before .item6 .ensures) (c .before .before .keeps .ensures) (c .before .before .before .before .before .value3 .ensures) (c .cast .ensures .0) (c .cast .ensures .1) (c .cast .ensures .2))
+    (λ c. cast-answer (c .before .before .before .before .before .before .before .before .before .item .ensures) (c .before .before .before .before .before .before .before .child5 .ensures) (c .before .before .before .before .before .before .before .before .match .keys5) (c .before .before .before .before .type-of3 .ensures) (c .before .before .before .item6 .ensures) (c .before .before .keeps .ensures) (c .before .before .before .before .before .value3 .ensures) (c .cast .ensures .0) (c .cast .ensures .1) (c .cast .ensures .2))
     (λ c. size-answer (c .before .before .before .item .ensures) refl (c .before .before .match .keys6) (c .size .ensures .0) (c .size .ensures .1 .0) (c .size .ensures .1 .1))
     (λ c. malloc-answer (c .before .before .before .before .before .before .before .before .before .item .ensures) (c .before .before .before .before .before .before .before .child6 .ensures) (malloc-kind (c .before .before .before .before .before .before .before .before .before .before .pre .1) (c .before .before .before .before .before .before .before .before .before .item .ensures) (c .before .before .before .before .before .before .before .before .match .rest .0 .0 .0 .0 .0 .1) (c .before .before .before .before .before .before .before .before .match .rest .0 .0 .0 .0 .1) (c .before .before .before .before .before .before .before .before .match .rest .0 .0 .0 .1) (c .before .before .before .before .before .before .before .before .match .rest .0 .0 .1) (c .before .before .before .before .before .before .before .before .match .rest .0 .1) (c .before .before .before .before .before .before .before .before .match .rest .1)) (c .before .before .words2 .ensures) (c .before .before .before .value4 .ensures) (c .allocate2 .ensures .0) (c .allocate2 .ensures .1)))

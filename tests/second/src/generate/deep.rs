@@ -2,17 +2,18 @@
 
 use super::random::Random;
 use super::routine::Routine;
-use super::types::{Types, INT, VOID_POINTER};
+use super::types::{Types, INT, RECORD, VOID_POINTER};
 use crate::machine::kind;
 
-/// Type of pointers to int, the only pointer entry of a deep routine.
+/// The pointer entries of a deep routine: to int, and to a record of two ints.
 const POINTER: u32 = 2;
+const ROW: u32 = 3;
 
 pub fn routine(random: &mut Random) -> Routine {
     let types = Types {
-        records: Vec::new(),
-        pointers: vec![INT],
-        variables: vec![POINTER, INT, VOID_POINTER],
+        records: vec![vec![[INT, 1], [INT, 1]]],
+        pointers: vec![INT, RECORD],
+        variables: vec![POINTER, INT, VOID_POINTER, ROW],
     };
     let room = random.below(37);
     let routine = Routine::new(random, types, room);
@@ -75,14 +76,16 @@ impl Deep<'_> {
         while (self.routine.nodes.len() as u32) < goal {
             (value, typ) = match typ {
                 INT => self.around_int(value, style),
-                VOID_POINTER => (self.node(kind::CAST, value, POINTER), POINTER),
+                VOID_POINTER => self.cast(value, &[POINTER, ROW]),
+                ROW => self.around_row(value),
                 _ => self.around_pointer(value, style),
             };
         }
         let variable = match typ {
             POINTER => 0,
             INT => 1,
-            _ => 2,
+            VOID_POINTER => 2,
+            _ => 3,
         };
         self.assign(variable, value);
     }
@@ -121,20 +124,37 @@ impl Deep<'_> {
                 let place = self.node(kind::DEREF, value, 0);
                 (self.node(kind::ADDRESS, place, 0), POINTER)
             }
-            1 => {
-                let word = self.random.pick(&[0, 0, 1, u32::MAX]);
-                let b = self.constant(word);
-                (self.node(kind::SUM, value, b), POINTER)
-            }
-            2 => {
-                let typ = self.random.pick(&[VOID_POINTER, POINTER]);
-                (self.node(kind::CAST, value, typ), typ)
-            }
+            1 => (self.step(value, &[0, 0, 1, u32::MAX]), POINTER),
+            2 => self.cast(value, &[VOID_POINTER, POINTER, ROW]),
             3 => {
                 let place = self.node(kind::DEREF, value, 0);
                 (self.node(kind::READ, place, 0), INT)
             }
             _ => (self.node(kind::CAST, value, INT), INT),
         }
+    }
+
+    /// A step is two words here, and 2^31 steps lead nowhere.
+    fn around_row(&mut self, value: u32) -> (u32, u32) {
+        match self.random.weighted(&[55, 5, 40]) {
+            0 => (self.step(value, &[0, 1 << 31, 1, u32::MAX]), ROW),
+            1 => {
+                let field = self.random.below(2);
+                let place = self.node(kind::FIELD, value, field);
+                (self.node(kind::ADDRESS, place, 0), POINTER)
+            }
+            _ => self.cast(value, &[VOID_POINTER, POINTER]),
+        }
+    }
+
+    fn step(&mut self, value: u32, numbers: &[u32]) -> u32 {
+        let word = self.random.pick(numbers);
+        let b = self.constant(word);
+        self.node(kind::SUM, value, b)
+    }
+
+    fn cast(&mut self, value: u32, types: &[u32]) -> (u32, u32) {
+        let typ = self.random.pick(types);
+        (self.node(kind::CAST, value, typ), typ)
     }
 }

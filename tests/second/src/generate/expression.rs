@@ -31,6 +31,15 @@ impl<'r> Expressions<'r> {
 
     /// A command, or none where there is no place at all to assign to.
     pub fn command(&mut self) -> Option<[u32; 2]> {
+        let walk = match self.random.percent(20) {
+            true => self.walk(),
+            false => None,
+        };
+        walk.or_else(|| self.assignment())
+    }
+
+    /// A place and a value of one type.
+    fn assignment(&mut self) -> Option<[u32; 2]> {
         let types = &self.routine.types;
         let mut goals: Vec<u32> = types.variables.clone();
         goals.extend((2..types.count()).filter_map(|t| types.target(t)));
@@ -160,9 +169,13 @@ impl<'r> Expressions<'r> {
     }
 
     pub(super) fn any_pointer(&mut self) -> u32 {
-        let types = self.routine.types.count();
-        let typ = self.random.between(1, types - 1);
+        let typ = self.any_pointer_type();
         self.pointer(typ)
+    }
+
+    pub(super) fn any_pointer_type(&mut self) -> u32 {
+        let types = self.routine.types.count();
+        self.random.between(1, types - 1)
     }
 
     /// A value of pointer type `typ`.
@@ -222,7 +235,10 @@ impl<'r> Expressions<'r> {
     fn words(&mut self, typ: u32) -> u32 {
         let room = self.routine.length.saturating_sub(self.routine.unused);
         let greedy = if self.wanted == Wanted::NoRoom { 30 } else { 2 };
-        match self.random.weighted(&[8, 45, 20, 6, greedy, greedy / 2]) {
+        let step = self.routine.types.step(typ);
+        let row = if (2..=20).contains(&step) { 90 } else { 0 };
+        let weights = [8, 45, 20, 6, greedy, row, greedy / 2];
+        match self.random.weighted(&weights) {
             0 => self.constant(0),
             1 => {
                 let words = self.random.between(1, 5);
@@ -236,6 +252,10 @@ impl<'r> Expressions<'r> {
             4 => {
                 let more = self.random.below(3);
                 self.constant(room + more)
+            }
+            5 => {
+                let records = self.random.between(2, 4);
+                self.constant(records * step)
             }
             _ => {
                 let words = self

@@ -36,8 +36,9 @@ fn count(random: &mut Random, pointers: u32) -> u32 {
     }
 }
 
-/// Often as long as the record that the variable points to, or one word off,
-/// so that its last field just fits or just does not.
+/// Often as long as the record that the variable points to, or as several of
+/// them in a row, or one word off, so that the last field just fits or just
+/// does not.
 fn length(random: &mut Random, types: &Types, variable: u32) -> u32 {
     let record = types.record(types.variables[variable as usize]);
     let size = record.map_or(0, |record| types.size(record)).min(60);
@@ -46,7 +47,10 @@ fn length(random: &mut Random, types: &Types, variable: u32) -> u32 {
         1 => 1,
         2 => random.between(2, 5),
         3 => random.between(4, 20),
-        4 => random.pick(&[size, size, size + 1, size - 1, 2 * size]),
+        4 => {
+            let row = size * random.pick(&[1, 2, 2, 3, 4]);
+            random.pick(&[row, row, row, row + 1, row - 1])
+        }
         _ => random.pick(&[100, 255, 256, 600]),
     }
 }

@@ -60,7 +60,10 @@ impl Routine {
 
     /// A routine of some commands with some ending.
     pub fn small(random: &mut Random) -> Routine {
-        let types = Types::small(random);
+        let types = match random.percent(35) {
+            true => Types::rows(random),
+            false => Types::small(random),
+        };
         let room = match random.weighted(&[45, 40, 13, 2]) {
             0 => random.below(16),
             1 => random.between(8, 48),

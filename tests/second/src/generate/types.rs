@@ -27,6 +27,28 @@ impl Types {
         Types::with(random, [records, pointers, variables], 4)
     }
 
+    /// Small records, of which several fit into a block, and variables that
+    /// point to them: entries are pointers to int, to the first record, to
+    /// such a pointer, and to the second record if there is one.
+    pub fn rows(random: &mut Random) -> Types {
+        const ROW: u32 = 3;
+        let records = random.between(1, 2);
+        let mut made = Types {
+            pointers: vec![INT, RECORD, ROW],
+            variables: vec![ROW, INT],
+            ..Types::default()
+        };
+        made.pointers.extend((1..records).map(|r| RECORD + r));
+        let types = made.count();
+        for _ in 0..records {
+            let fields = fields(random, 3, types, |random| random.between(1, 3));
+            made.records.push(fields);
+        }
+        let more = (0..random.between(1, 5)).map(|_| random.between(1, types - 1));
+        made.variables.extend(more);
+        made
+    }
+
     /// As many as the limits allow, or nearly.
     pub fn large(random: &mut Random) -> Types {
         let mut near = |limit: u32| match random.below(3) {
@@ -38,14 +60,13 @@ impl Types {
         Types::with(random, counts, fields.max(1))
     }
 
-    fn with(random: &mut Random, counts: [usize; 3], fields: u32) -> Types {
+    fn with(random: &mut Random, counts: [usize; 3], most_fields: u32) -> Types {
         let [records, pointers, variables] = counts;
         let types = 2 + pointers as u32;
         let mut made = Types::default();
         for _ in 0..records {
-            let count = random.between(1, fields);
-            let record = (0..count).map(|_| [any_type(random, types), words(random)]);
-            made.records.push(record.collect());
+            let fields = fields(random, most_fields, types, words);
+            made.records.push(fields);
         }
         made.pointers = targets(random, pointers, records as u32);
         made.variables = (0..variables).map(|_| any_type(random, types)).collect();
@@ -80,6 +101,11 @@ impl Types {
         self.records[record].iter().map(|&[_, words]| words).sum()
     }
 
+    /// How many words each 1 added to a value of this type moves it by.
+    pub fn step(&self, typ: u32) -> u32 {
+        self.record(typ).map_or(1, |record| self.size(record))
+    }
+
     /// Variables of a type.
     pub fn variables_of(&self, typ: u32) -> Vec<u32> {
         let numbers = 0..self.variables.len() as u32;
@@ -103,6 +129,18 @@ impl Types {
         }
         found
     }
+}
+
+/// The fields of a record, each of as many words as `words` says.
+fn fields(
+    random: &mut Random,
+    most: u32,
+    types: u32,
+    words: fn(&mut Random) -> u32,
+) -> Vec<[u32; 2]> {
+    let count = random.between(1, most);
+    let fields = (0..count).map(|_| [any_type(random, types), words(random)]);
+    fields.collect()
 }
 
 fn any_type(random: &mut Random, types: u32) -> u32 {

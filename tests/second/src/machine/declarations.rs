@@ -19,6 +19,9 @@ pub struct Declarations {
     target: [u8; MAX_TYPES],
     /// Type to the type that points to it, or 0, which never does.
     pointer_to: [u8; MAX_TYPES],
+    /// Type to how many words each 1 added to it moves by. Those of int and
+    /// pointer to void never change either.
+    step: [u32; MAX_TYPES],
     first_field: [u8; MAX_RECORDS],
     record_size: [u32; MAX_RECORDS],
     /// Field to its offset in its record.
@@ -31,6 +34,7 @@ impl Declarations {
             types: 0,
             target: [NOTHING; MAX_TYPES],
             pointer_to: [0; MAX_TYPES],
+            step: [1; MAX_TYPES],
             first_field: [0; MAX_RECORDS],
             record_size: [0; MAX_RECORDS],
             offset: [0; MAX_FIELDS],
@@ -82,6 +86,7 @@ impl Declarations {
                 }
                 self.pointer_to[target as usize] = 2 + i as u8;
                 self.target[2 + i] = target as u8;
+                self.step[2 + i] = 1;
                 continue;
             }
             let record = target.wrapping_sub(RECORD);
@@ -93,6 +98,7 @@ impl Declarations {
             }
             records_seen |= 1 << record;
             self.target[2 + i] = RECORD_MARK + record as u8;
+            self.step[2 + i] = self.record_size[record as usize];
         }
         Ok(())
     }
@@ -124,6 +130,12 @@ impl Declarations {
     pub fn pointer_to(&self, typ: u8) -> Option<u8> {
         let pointer = self.pointer_to[typ as usize];
         (pointer != 0).then_some(pointer)
+    }
+
+    /// How many words each 1 added to a value of this type moves it by.
+    #[inline(always)]
+    pub fn step(&self, typ: u8) -> u32 {
+        self.step[typ as usize]
     }
 
     /// The field with number `b` of the record that `pointer` points to, as

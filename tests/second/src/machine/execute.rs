@@ -151,18 +151,21 @@ impl<'m> Memory<'m> {
         }
     }
 
-    /// The sum has the bounds of its first part.
+    /// The sum has the bounds of its first part, whose type tells how long a
+    /// step is. All the steps together are taken modulo 2^32 too, so that a
+    /// number near 2^32 leads back.
     #[inline(always)]
     fn sum(&mut self, a: u32, b: u32) -> Option<u32> {
         let left = self.value(a)?;
+        let step = self.declarations.step(self.notes[a as usize]);
         let [kind, number, _] = self.nodes[b as usize];
         if kind == kind::CONSTANT {
-            return Some(left.wrapping_add(number));
+            return Some(left.wrapping_add(number.wrapping_mul(step)));
         }
         let bounds = (self.base, self.end);
         let right = self.value(b)?;
         (self.base, self.end) = bounds;
-        Some(left.wrapping_add(right))
+        Some(left.wrapping_add(right.wrapping_mul(step)))
     }
 
     #[inline(always)]
