@@ -40,6 +40,7 @@ struct mavistable_verdict mavistable_check(const uint32_t *table, size_t length)
    Registers are arrays for the routine to work on: their count (at most 16), then for each the number of a pointer variable, a length n
    and n words. Each becomes a block of memory after the variables, and its variable starts at it, with its bounds; with n = 0 it
    starts as 0. Without registers the list is the one word 0. What the routine leaves of a register stands in values.
+   A number n added to a pointer to a record moves it by n records; added to anything else it counts words. Both wrap at 32 bits.
    The caller owes: each pointer points to as many words as its length says (readable; those of the three lists writable too),
    none is NULL, and no list of the three overlaps another one or the table, the inputs or the registers. */
 struct mavistable_answer mavistable_run(const uint32_t *table, size_t table_length, const uint32_t *inputs, size_t input_count,

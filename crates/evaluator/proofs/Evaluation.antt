@@ -11,7 +11,7 @@ use Rattle.semantics.specs.Words.{Words, word}
 use Rattle.semantics.specs.Table.{nodes, count, item, is-pointer, known-type, known-target, size-of, read, size, place, node-a, node-b, node-type}
 use Rattle.semantics.specs.Syntax.{value-of, step-of}
 use Rattle.semantics.specs.Check.{is-child}
-use Rattle.semantics.specs.Rules.{Datum, Location, Event, State, Outcome, unbounded, bind, variable-location, address-step, place-at}
+use Rattle.semantics.specs.Rules.{Datum, Location, Event, State, Outcome, unbounded, bind, variable-location, address-step, sum-step, place-at, value-at}
 use Rattle.semantics.proofs.Passed.{require-passes}
 use Rattle.semantics.proofs.Trees.{Node-ok, node-ok, is-child-true, types-known}
 use Rattle.semantics.proofs.Invariant.{Inv, Datum-ok, Good, good-ok}
@@ -245,6 +245,15 @@ goes-on-good f under (answers-ok x log p q s small) (good-ok inv later fine) k =
 goes-on-good f under (answers-failed x log h) g k = absurd (omega arith)
 goes-on-good f under (answers-full log h) g k = absurd (omega arith)
 
+-- The left operand of the sum n was worked out, v with base, end and U in s₁: what is answered for it and the right operand d, with the step z,
+-- is answered for the sum.
+record Left-done (l m : List Words) (n : ℕ) (s : Words) (d v z : ℕ) (s₁ : Words) : Type 0 where
+  then : {r b e u : ℕ} (t : Words) → Lists t l → n < count t nodes → (vars : ℕ) (log : List Event) → Inv vars (length (column m 0)) (state-of m (word s 2) log)
+      → Value-ok vars (value-of t n)
+      → ((x : Datum) (log₁ : List Event) → d < count t nodes → Value-ok vars (value-of t d) → x .value ≡ v → x .base ≡ word s₁ 0 → x .end ≡ word s₁ 1
+      → Inv vars (length (column m 0)) (state-of m (word s₁ 2) log₁) → Datum-answers m r b e u (bind (value-at (value-of t d) (state-of m (word s₁ 2) log₁)) (sum-step z x)))
+      → Datum-answers m r b e u (value-at (value-of t n) (state-of m (word s 2) log))
+
 module _ {l m : List Words} {n : ℕ} {s : Words} {k a : ℕ} (e : k ≡ part l n 0) (p : a ≡ part l n 1) where
   pub variable-answer : {r : ℕ} {s′ : Words} → k ≡ 1 → Variable-answered a r (word s′ 0) (word s′ 1) → Kept s s′ → Place-answered l m n s r s′
   unfolding place-at
@@ -314,22 +323,33 @@ module _ {l m : List Words} {n : ℕ} {s : Words} {k a : ℕ} (e : k ≡ part l 
             rw (nd .2, ← p′) (passed-on _ _ _ over (child .meets t lists (omega (arith, nd .0 .less, p′)) vars log inv (rw (← p′) at (nd .0 .tree))));
       }
 
-  module _ {d v y z : ℕ} {s₁ : Words} (q : k ≡ 5) (g : d ≡ part l n 2) (child : Value-answered l m a s v s₁) (under : v < failed)
-    (hy : y ≡ word (column l 1) a) (hz : (t : Words) → Known-word known-type t l y → z ≡ step-of t y) where
+  -- The child's number is read again for its type, a₂.
+  module _ {d v a₂ y z : ℕ} {s₁ : Words} (q : k ≡ 5) (g : d ≡ part l n 2) (child : Value-answered l m a s v s₁) (under : v < failed)
+    (p₂ : a₂ ≡ part l n 1) (hy : y ≡ word (column l 1) a₂) (hz : (t : Words) → Known-word known-type t l y → z ≡ step-of t y) where
+    left-done : Left-done l m n s d v z s₁
+    unfolding place-at
+    left-done =
+        record {
+          then = λ t lists node vars log inv h goes.
+              let nd = sum-node t n (kind-is lists node e q) h in
+              let p′ = a-is lists node p in
+              let d′ = b-is lists node g in
+              let tree = rw (← p′) at (nd .0 .tree) in
+              let inside : a < count t nodes = omega (arith, nd .0 .less, p′) in
+              rw (nd .2, ← p′, ← step-is lists inside tree (rw (p₂, ← p) at hy) hz, ← d′)
+              (goes-on-good _ under (child .meets t lists inside vars log inv tree) (value-good tree _ inv)
+              (λ x log₁ hv hb he inv₁. goes x log₁ (omega (arith, nd .1 .less, d′)) (rw (← d′) at (nd .1 .tree)) hv hb he inv₁));
+        }
+
     pub sum-answer : {w r : ℕ} {s₂ s₃ : Words} → Value-answered l m d s₁ w s₂ → Sum-answered z v w r → Bounded (word s₁ 0) (word s₁ 1) s₂ s₃ → Value-answered l m n s r s₃
     unfolding place-at
     sum-answer right answer set =
         record {
           room = set .kept .room;
           meets = λ t lists node vars log inv h.
-              let nd = sum-node t n (kind-is lists node e q) h in
-              let p′ = a-is lists node p in
-              let d′ = b-is lists node g in
-              let tree = rw (← p′) at (nd .0 .tree) in
-              let inside : a < count t nodes = omega (arith, nd .0 .less, p′) in
-              rw (nd .2, ← p′, ← step-is lists inside tree hy hz, ← d′, set .base, set .end, set .kept .unused)
-              (goes-on-good _ under (child .meets t lists inside vars log inv tree) (value-good tree _ inv)
-              (λ x log₁ hv hb he inv₁. answer .meets x _ _ _ _ m _ _ hv hb he (right .meets t lists (omega (arith, nd .1 .less, d′)) vars log₁ inv₁ (rw (← d′) at (nd .1 .tree)))));
+              rw (set .base, set .end, set .kept .unused)
+              (left-done .then t lists node vars log inv h
+              (λ x log₁ inside tree hv hb he inv₁. answer .meets x _ _ _ _ m _ _ hv hb he (right .meets t lists inside vars log₁ inv₁ tree)));
         }
 
     -- The right operand is a constant: its number is added, and no bounds are set.
@@ -339,15 +359,10 @@ module _ {l m : List Words} {n : ℕ} {s : Words} {k a : ℕ} (e : k ≡ part l 
         record {
           room = child .room;
           meets = λ t lists node vars log inv h.
-              let nd = sum-node t n (kind-is lists node e q) h in
-              let p′ = a-is lists node p in
-              let d′ = b-is lists node g in
-              let tree = rw (← p′) at (nd .0 .tree) in
-              let inside : a < count t nodes = omega (arith, nd .0 .less, p′) in
-              let right : d < count t nodes = omega (arith, nd .1 .less, d′) in
-              rw (nd .2, ← p′, ← step-is lists inside tree hy hz, ← d′, constant-node t d (kind-is lists right f four), ← a-is lists right x)
-              (goes-on-good _ under (child .meets t lists inside vars log inv tree) (value-good tree _ inv)
-              (λ y log₁ hv hb he inv₁. answer .meets y _ _ 0 0 m _ _ hv hb he (answers-ok (unbounded i) log₁ (sym hw) refl refl small)));
+              left-done .then t lists node vars log inv h
+              (λ y log₁ inside tree hv hb he inv₁.
+              rw (constant-node t d (kind-is lists inside f four), ← a-is lists inside x)
+              (answer .meets y _ _ 0 0 m _ _ hv hb he (answers-ok (unbounded i) log₁ (sym hw) refl refl small)));
         }
 
   pub read-answer : {y at r : ℕ} {s₁ s₂ : Words} → k ≡ 6 → y ≡ word (column l 1) n → Place-answered l m a s at s₁ → Load-answered y m at r (word s₂ 0) (word s₂ 1) → Kept s₁ s₂

@@ -200,12 +200,12 @@ pub fn value(l: &[&[u32]; 6], m: &[&[u32]; 3], n: usize, s: &mut [u32; 3]) -> u6
     match item(l, n, 0) {
         4 => number(item(l, n, 1), s),
         5 => {
-            let a = child(l, n, 1);
-            let v = value(l, m, a, s);
+            let v = value(l, m, child(l, n, 1), s);
             if FAILED <= v {
                 return v;
             }
-            let by = step(l, type_of(l, a));
+            // The child's number is read again: kept over the call, it would be one register more for every call to save.
+            let by = step(l, type_of(l, child(l, n, 1)));
             let c = child(l, n, 2);
             if item(l, c, 0) == 4 {
                 return sum(v, by, long(item(l, c, 1)));

@@ -16,8 +16,8 @@ pub const FAILED: u64 = 4294967296;
 
 const FULL: u64 = 4294967297;
 
-// How many words there are: sums wrap there.
-const WORDS: u64 = 4294967296;
+// What sums are taken modulo.
+const MODULUS: u64 = 4294967296;
 
 // Word w of list j of the memory.
 fn cell(m: &[&[u32]; 3], j: usize, w: usize) -> u32
@@ -114,7 +114,7 @@ pub fn sum(v: u64, step: u32, w: u64) -> u64
     if FAILED <= w {
         return w;
     }
-    let moved = low(long(step) * w % WORDS);
+    let moved = low(long(step) * w % MODULUS);
     long(std::num::wrapping_add_u32(low(v), moved))
 }
 
