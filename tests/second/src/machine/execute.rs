@@ -159,9 +159,16 @@ impl<'m> Memory<'m> {
         let left = self.value(a)?;
         let step = self.declarations.step(self.notes[a as usize]);
         let [kind, number, _] = self.nodes[b as usize];
-        if kind == kind::CONSTANT {
-            return Some(left.wrapping_add(number.wrapping_mul(step)));
+        match kind {
+            kind::CONSTANT => Some(left.wrapping_add(number.wrapping_mul(step))),
+            _ => self.sum_of(left, step, b),
         }
+    }
+
+    /// The same for a right part that isn't a constant. Apart, so that not
+    /// every call of `value` has to save what this one keeps.
+    #[inline(never)]
+    fn sum_of(&mut self, left: u32, step: u32, b: u32) -> Option<u32> {
         let bounds = (self.base, self.end);
         let right = self.value(b)?;
         (self.base, self.end) = bounds;
