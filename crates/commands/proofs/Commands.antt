@@ -13,7 +13,7 @@ use Rattle.semantics.specs.Rules.{Datum, Location, Event, stored, State, noted,
 use Rattle.semantics.proofs.Invariant.{Inv, permitted-used, Datum-ok, Location-ok, location-later, Good, good-ok}
 use Rattle.semantics.proofs.Passed.{section-ok}
 use Rattle.semantics.proofs.Steps.{Value-ok, place-good, value-good}
-use Rattle.evaluator.specs.Lists.{Lists}
+use Rattle.lookups.specs.Lists.{Lists}
 use Rattle.steps.specs.Answers.{column, failed, state-of, Answers, answers-ok, answers-failed, answers-full, Location-answers, Datum-answers}
 use Rattle.evaluator.specs.Result.{Ready, Place-ready, Value-ready, Value-answered, Assigned-answered}
 use Rattle.commands.specs.Command.{lists, Command-ready, Evaluates, to-store, evaluates-failed, evaluates-full, Evaluated, Stored, Command-answered}

@@ -10,7 +10,7 @@ use Rattle.semantics.specs.Syntax.{place-of, value-of}
 use Rattle.semantics.specs.Rules.{Datum, Location, Event, Shortfall, Outcome, fails, no-room, assign-step, assign}
 use Rattle.semantics.proofs.Invariant.{Inv, Datum-ok, Location-ok}
 use Rattle.semantics.proofs.Steps.{Place-ok, Value-ok}
-use Rattle.evaluator.specs.Lists.{Lists}
+use Rattle.lookups.specs.Lists.{Lists}
 use Rattle.steps.specs.Answers.{column, failed, full, state-of, Answers}
 use Rattle.evaluator.specs.Result.{Ready}
 

@@ -9,7 +9,7 @@ use Rattle.semantics.specs.Rules.{Event}
 use Rattle.semantics.specs.Run as semantics
 use Rattle.semantics.specs.Run.{ending, done, abort, out-of-memory, Result, result-of, commands-below}
 use Rattle.semantics.proofs.Invariant.{Inv}
-use Rattle.evaluator.specs.Lists.{Lists}
+use Rattle.lookups.specs.Lists.{Lists}
 use Rattle.steps.specs.Answers.{state-of}
 use Rattle.commands.specs.Command.{lists}
 use Rattle.commands.specs.declared.Ended.{Ended}

@@ -80,7 +80,7 @@ fn command(
     if ENDED <= r {
         return r;
     }
-    let pointer = evaluator::type_of(l, v);
+    let pointer = lookups::type_of(l, v);
     store(values, bases, ends, index(at), pointer, low(r), s[0], s[1]);
     0
 }

@@ -16,11 +16,11 @@ use Rattle.semantics.proofs.Passed.{require-passes}
 use Rattle.semantics.proofs.Trees.{Node-ok, node-ok, is-child-true, types-known}
 use Rattle.semantics.proofs.Invariant.{Inv, Datum-ok, Good, good-ok}
 use Rattle.semantics.proofs.Steps.{Value-ok, place-good, value-good}
-use Rattle.evaluator.specs.Lists.{part, Lists, Node-ready, Reads-variable, Field-node, Field-ready, Known-word, Known-ready}
+use Rattle.lookups.specs.Lists.{part, Lists, Field-node, Field-ready, Known-word, Known-ready}
 use Rattle.steps.specs.Answers.{column, failed, state-of, Kept, Bounded, answers-ok, answers-failed, answers-full, Datum-answers, Location-answers, Variable-answered, Deref-answered, Field-answered, Sum-answered, Load-answered, Cast-answered, Malloc-answered}
-use Rattle.evaluator.specs.Result.{Ready, Place-ready, Pointed-ready, Value-ready, Place-answered, Value-answered, Assigned-answered}
+use Rattle.evaluator.specs.Result.{Node-ready, Reads-variable, Ready, Place-ready, Pointed-ready, Value-ready, Place-answered, Value-answered, Assigned-answered}
 use Rattle.steps.proofs.Finish.{passed-on, touched}
-use Rattle.evaluator.proofs.Lookups.{item-inside, type-inside, item-is}
+use Rattle.lookups.proofs.Lookups.{item-inside, type-inside, item-is}
 use Rattle.evaluator.proofs.Nodes.{place-kind, value-kind, value-node, field-kind, size-kind, read-kind, Value-child, Place-child, offset-of, count-of, cast-keeps, constant-node, size-node, variable-node, deref-node, field-node, sum-node, read-node, address-node, cast-node, malloc-node}
 
 -- ---- a node's words, as the lists have them
@@ -325,7 +325,7 @@ module _ {l m : List Words} {n : ℕ} {s : Words} {k a : ℕ} (e : k ≡ part l 
 
   -- The child's number is read again for its type, a₂.
   module _ {d v a₂ y z : ℕ} {s₁ : Words} (q : k ≡ 5) (g : d ≡ part l n 2) (child : Value-answered l m a s v s₁) (under : v < failed)
-    (p₂ : a₂ ≡ part l n 1) (hy : y ≡ word (column l 1) a₂) (hz : (t : Words) → Known-word known-type t l y → z ≡ step-of t y) where
+      (p₂ : a₂ ≡ part l n 1) (hy : y ≡ word (column l 1) a₂) (hz : (t : Words) → Known-word known-type t l y → z ≡ step-of t y) where
     left-done : Left-done l m n s d v z s₁
     unfolding place-at
     left-done =

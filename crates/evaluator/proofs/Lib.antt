@@ -1,4 +1,3 @@
 -- Laws that the functions' proofs cite.
-pub mod Lookups
 pub mod Nodes
 pub mod Evaluation

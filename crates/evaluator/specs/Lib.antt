@@ -1,3 +1,2 @@
--- What the evaluator reads, and what its functions answer.
-pub mod Lists
+-- What the contracts of this crate cite.
 pub mod Result

@@ -9,8 +9,19 @@ use Rattle.semantics.specs.Syntax.{place-of, value-of}
 use Rattle.semantics.specs.Rules.{Event, place-at, value-at}
 use Rattle.semantics.proofs.Invariant.{Inv}
 use Rattle.semantics.proofs.Steps.{Place-ok, Value-ok}
-use Rattle.evaluator.specs.Lists.{Lists, Field-ready}
+use Rattle.lookups.specs.Lists.{part, Lists, Field-ready}
 use Rattle.steps.specs.Answers.{column, state-of, Datum-answers, Location-answers}
+
+-- Node n is one of some table with these lists.
+pub record Node-ready (l : List Words) (n : ℕ) : Type 0 where
+  pub table : Words
+  pub lists : Lists table l
+  pub node : n < count table nodes
+
+-- Node n is a read, and its child a variable.
+pub record Reads-variable (l : List Words) (n : ℕ) : Type 0 where
+  pub reads : part l n 0 ≡ 6
+  pub variable : part l (part l n 1) 0 ≡ 1
 
 -- A state of a begun run, with the log that the rules have there.
 pub record Ready (m : List Words) (u : ℕ) : Type 0 where

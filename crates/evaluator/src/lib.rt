@@ -1,21 +1,24 @@
 // Evaluation of places and values: the nodes are read as they stand in the table, which has passed the check.
-// `l` are the lists of the table: its nodes, their types, the targets of its pointers, its fields, the first field of each record,
-// and the words before each field. `m` is the memory: values, bases and ends. `s` holds base and end of what was worked out, and U.
-// A result is one number, below 2^32 a value or a place, else how evaluation ended.
+// `l` are the lists of the table (crate `lookups`), `m` is the memory: values, bases and ends. `s` holds base and end of what was worked out,
+// and U. A result is one number, below 2^32 a value or a place, else how evaluation ended.
 ghost use mathlib.Core.Path.{_≡_};
 ghost use mathlib.Core.Bool.{true};
 ghost use mathlib.Core.List.{List, map};
-ghost use Prim.Native.Nat.{ℕ, _+_, _*_, _≤_, _<_, _^_};
+ghost use Prim.Native.Nat.{ℕ, _+_, _*_, _<_};
 ghost use lib.ListN.{length};
-ghost use Rattle.semantics.specs.Words.{Words, word};
-ghost use Rattle.semantics.specs.Table.{known-type, known-target, target, pointed-record, first-field, field-offset, field-count, size-of, node-a, node-b, node-type};
-ghost use Rattle.semantics.specs.Syntax.{step-of};
-ghost use Rattle.evaluator.specs.Lists.{part, Node-ready, Field-node, Field-ready, Reads-variable, Known-word, Known-ready};
+ghost use Rattle.semantics.specs.Words.{Words};
+ghost use Rattle.semantics.specs.Table.{known-target, size-of};
 ghost use Rattle.steps.specs.Answers.{column, failed, Bounded};
-ghost use Rattle.evaluator.specs.Result.{Place-ready, Value-ready, Pointed-ready, Place-answered, Value-answered, Assigned-answered};
-use layout::Table;
-use layout::index;
+ghost use Rattle.lookups.specs.Lists.{part, Known-word, Known-ready};
+ghost use Rattle.evaluator.specs.Result.{Node-ready, Reads-variable, Place-ready, Value-ready, Pointed-ready, Place-answered, Value-answered, Assigned-answered};
 use layout::long;
+use lookups::child;
+use lookups::count;
+use lookups::item;
+use lookups::offset;
+use lookups::size_of;
+use lookups::step;
+use lookups::type_of;
 use steps::FAILED;
 use steps::allocate;
 use steps::bound;
@@ -28,102 +31,6 @@ use steps::number;
 use steps::sum;
 use steps::variable;
 use steps::words;
-
-// Word i of list j of the table's lists.
-fn entry(l: &[&[u32]; 6], j: usize, i: usize) -> u32
-    requires { ⌜ (j < 6) × (i < 2 ^ 32) × (i < length (column (map (λ x. now x) (now l)) j)) ⌝ }
-    ensures { λ r. ⌜ r ≡ word (column (map (λ x. now x) (now (l .entry))) j) i ⌝ }
-{
-    l[j][i]
-}
-
-// Word j of node n.
-fn item(l: &[&[u32]; 6], n: usize, j: usize) -> u32
-    requires { ⌜ (n < 512) × (j < 3) × (n * 3 + j < length (column (map (λ x. now x) (now l)) 0)) ⌝ }
-    ensures { λ r. ⌜ r ≡ part (map (λ x. now x) (now (l .entry))) n j ⌝ }
-{
-    entry(l, 0, n * 3 + j)
-}
-
-// The node or the number that word j of node n is.
-fn child(l: &[&[u32]; 6], n: usize, j: usize) -> usize
-    requires { ⌜ (n < 512) × (j < 3) × (n * 3 + j < length (column (map (λ x. now x) (now l)) 0)) ⌝ }
-    ensures { λ r. ⌜ r ≡ part (map (λ x. now x) (now (l .entry))) n j ⌝ }
-{
-    index(item(l, n, j))
-}
-
-// The type of node n, a value.
-pub fn type_of(l: &[&[u32]; 6], n: usize) -> u32
-    requires { ⌜ (n < 512) × (n < length (column (map (λ x. now x) (now l)) 1)) ⌝ }
-    ensures { λ r. ⌜ r ≡ word (column (map (λ x. now x) (now (l .entry))) 1) n ⌝ }
-{
-    entry(l, 1, n)
-}
-
-// What this pointer type, an entry, points to.
-fn target(l: &[&[u32]; 6], of: u32) -> u32
-    requires { ⌜ (Known-ready known-type (map (λ x. now x) (now l)) of) × (2 ≤ of) ⌝ }
-    ensures { λ r. ⌜ ((t : Words) → Known-word known-type t (map (λ x. now x) (now (l .entry))) of → r ≡ target t of) ⌝ }
-{
-    entry(l, 2, index(of) - 2)
-}
-
-// The record that the child of node n, a field, points to.
-fn record(l: &[&[u32]; 6], n: usize) -> usize
-    requires { ⌜ Field-ready (map (λ x. now x) (now l)) n ⌝ }
-    ensures { λ r. ⌜ ((t : Words) → Field-node t (map (λ x. now x) (now (l .entry))) n → r ≡ pointed-record t (node-type t (node-a t n))) ⌝ }
-{
-    index(target(l, type_of(l, child(l, n, 1))) - Table::RECORD)
-}
-
-// That record's first field.
-fn first(l: &[&[u32]; 6], n: usize) -> usize
-    requires { ⌜ Field-ready (map (λ x. now x) (now l)) n ⌝ }
-    ensures { λ r. ⌜ ((t : Words) → Field-node t (map (λ x. now x) (now (l .entry))) n → r ≡ first-field t (pointed-record t (node-type t (node-a t n)))) ⌝ }
-{
-    index(entry(l, 4, record(l, n)))
-}
-
-// How many words of the record stand before node n, a field.
-fn offset(l: &[&[u32]; 6], n: usize) -> u32
-    requires { ⌜ Field-ready (map (λ x. now x) (now l)) n ⌝ }
-    ensures { λ r. ⌜ ((t : Words) → Field-node t (map (λ x. now x) (now (l .entry))) n → r ≡ field-offset t (pointed-record t (node-type t (node-a t n))) (node-b t n)) ⌝ }
-{
-    let f = first(l, n);
-    entry(l, 5, f + child(l, n, 2)) - entry(l, 5, f)
-}
-
-// How many words node n, a field, has.
-fn count(l: &[&[u32]; 6], n: usize) -> u32
-    requires { ⌜ Field-ready (map (λ x. now x) (now l)) n ⌝ }
-    ensures { λ r. ⌜ ((t : Words) → Field-node t (map (λ x. now x) (now (l .entry))) n → r ≡ field-count t (pointed-record t (node-type t (node-a t n))) (node-b t n)) ⌝ }
-{
-    entry(l, 3, 2 * (first(l, n) + child(l, n, 2)) + 1)
-}
-
-// The words of a record, or of a type.
-fn size_of(l: &[&[u32]; 6], x: u32) -> u32
-    requires { ⌜ Known-ready known-target (map (λ x. now x) (now l)) x ⌝ }
-    ensures { λ r. ⌜ ((t : Words) → Known-word known-target t (map (λ x. now x) (now (l .entry))) x → r ≡ size-of t x) ⌝ }
-{
-    if x < Table::RECORD {
-        return 1;
-    }
-    let r = index(x - Table::RECORD);
-    entry(l, 5, index(entry(l, 4, r + 1))) - entry(l, 5, index(entry(l, 4, r)))
-}
-
-// The words by which 1 moves a value of this type: those of the record that it points to, else one.
-fn step(l: &[&[u32]; 6], of: u32) -> u32
-    requires { ⌜ Known-ready known-type (map (λ x. now x) (now l)) of ⌝ }
-    ensures { λ r. ⌜ ((t : Words) → Known-word known-type t (map (λ x. now x) (now (l .entry))) of → r ≡ step-of t of) ⌝ }
-{
-    if of < 2 {
-        return 1;
-    }
-    size_of(l, target(l, of))
-}
 
 // The size that node n asks for, a number.
 fn size(l: &[&[u32]; 6], n: usize, s: &mut [u32; 3]) -> u64

@@ -13,7 +13,7 @@ use Rattle.semantics.specs.Rules.{State}
 use Rattle.semantics.specs.Run.{cleared, begin, run, call}
 use Rattle.semantics.proofs.Passed.{Passed, passed, section-ok, section-end}
 use Rattle.semantics.proofs.Safety.{Begun, begun, begin-inv}
-use Rattle.evaluator.specs.Lists.{Lists}
+use Rattle.lookups.specs.Lists.{Lists}
 use Rattle.steps.specs.Answers.{state-of}
 use Rattle.layout.specs.Layout.{verdict-of, section-of, layout, layout-by, Stands}
 use Rattle.layout.specs.declared.Table.{Table}

@@ -1,7 +1,7 @@
 -- `evaluator::size` meets its contract. Assumes nothing.
 use borrow.Author.Needs.{needs}
 use mathlib.Core.Path.{_∙_}
-use Rattle.evaluator.proofs.Lookups.{size-same}
+use Rattle.lookups.proofs.Lookups.{size-same}
 use Rattle.evaluator.proofs.size.Statement.{statement}
 use Rattle.evaluator.proofs.size.Tie as tie
 

@@ -31,17 +31,6 @@ pub record Lists (t : Words) (l : List Words) : Type 0 where
   pub befores : Tabulated (column l 5) (count t fields) (words-before t)
   pub before-room : count t fields < length (column l 5)
 
--- Node n is one of some table with these lists.
-pub record Node-ready (l : List Words) (n : ℕ) : Type 0 where
-  pub table : Words
-  pub lists : Lists table l
-  pub node : n < count table nodes
-
--- Node n is a read, and its child a variable.
-pub record Reads-variable (l : List Words) (n : ℕ) : Type 0 where
-  pub reads : part l n 0 ≡ 6
-  pub variable : part l (part l n 1) 0 ≡ 1
-
 -- Node n of the table is a field.
 pub record Field-node (t : Words) (l : List Words) (n : ℕ) : Type 0 where
   pub lists : Lists t l

@@ -1,10 +1,10 @@
--- `evaluator::first` meets its contract. Assumes nothing.
+-- `lookups::first` meets its contract. Assumes nothing.
 use borrow.Author.Needs.{needs}
 use native.Mathlib.Omega.{arith}
 use mathlib.Core.Path.{_∙_}
-use Rattle.evaluator.proofs.Lookups.{first-inside, first-is}
-use Rattle.evaluator.proofs.first.Statement.{statement}
-use Rattle.evaluator.proofs.first.Tie as tie
+use Rattle.lookups.proofs.Lookups.{first-inside, first-is}
+use Rattle.lookups.proofs.first.Statement.{statement}
+use Rattle.lookups.proofs.first.Tie as tie
 
 entry-requires : tie.Need-entry-requires
 entry-requires c κs =

@@ -19,7 +19,7 @@ use Rattle.semantics.proofs.Trees.{Node-ok, node-ok, is-child-true, types-known
 use Rattle.layout.specs.Types.{words-before}
 use Rattle.layout.proofs.Laws.{sum-more}
 use Rattle.layout.proofs.Types.{first-≤}
-use Rattle.evaluator.specs.Lists.{part, Lists, Field-node, Known-word}
+use Rattle.lookups.specs.Lists.{part, Lists, Field-node, Known-word}
 use Rattle.steps.specs.Answers.{column}
 
 few-records : {t : Words} → Types-passed t → count t records ≤ 32

@@ -1,10 +1,10 @@
--- `evaluator::step` meets its contract. Assumes nothing.
+-- `lookups::step` meets its contract. Assumes nothing.
 use borrow.Author.Needs.{needs}
 use native.Mathlib.Omega.{arith}
 use mathlib.Core.Path.{_∙_}
-use Rattle.evaluator.proofs.Lookups.{target-word, step-word, step-size}
-use Rattle.evaluator.proofs.step.Statement.{statement}
-use Rattle.evaluator.proofs.step.Tie as tie
+use Rattle.lookups.proofs.Lookups.{target-word, step-word, step-size}
+use Rattle.lookups.proofs.step.Statement.{statement}
+use Rattle.lookups.proofs.step.Tie as tie
 
 returns : tie.Need-returns
 returns c t h = step-word t _ (omega (arith, c .if1 .taken))

@@ -1,10 +1,10 @@
--- `evaluator::offset` meets its contract. Assumes nothing.
+-- `lookups::offset` meets its contract. Assumes nothing.
 use Prim.Native.Nat.{_+_, _<_}
 use borrow.Author.Needs.{needs}
 use native.Mathlib.Omega.{arith}
-use Rattle.evaluator.proofs.Lookups.{item-inside, field-inside, offset-is}
-use Rattle.evaluator.proofs.offset.Statement.{statement}
-use Rattle.evaluator.proofs.offset.Tie as tie
+use Rattle.lookups.proofs.Lookups.{item-inside, field-inside, offset-is}
+use Rattle.lookups.proofs.offset.Statement.{statement}
+use Rattle.lookups.proofs.offset.Tie as tie
 
 small : (c : tie.After-child) → c .before .first .result + c .child .result < 128
 small c = field-inside (c .before .before .pre .is-field) (c .before .first .ensures (c .before .before .pre .table) (c .before .before .pre .is-field)) (c .child .ensures) .0

@@ -1,9 +1,9 @@
--- `evaluator::target` meets its contract. Assumes nothing.
+-- `lookups::target` meets its contract. Assumes nothing.
 use borrow.Author.Needs.{needs}
 use native.Mathlib.Omega.{arith}
-use Rattle.evaluator.proofs.Lookups.{entry-inside, entry-target}
-use Rattle.evaluator.proofs.target.Statement.{statement}
-use Rattle.evaluator.proofs.target.Tie as tie
+use Rattle.lookups.proofs.Lookups.{entry-inside, entry-target}
+use Rattle.lookups.proofs.target.Statement.{statement}
+use Rattle.lookups.proofs.target.Tie as tie
 
 entry-requires : tie.Need-entry-requires
 entry-requires c κs =

@@ -1,10 +1,10 @@
--- `evaluator::size_of` meets its contract. Assumes nothing.
+-- `lookups::size_of` meets its contract. Assumes nothing.
 use borrow.Author.Needs.{needs}
 use native.Mathlib.Omega.{arith}
 use mathlib.Core.Path.{_∙_}
-use Rattle.evaluator.proofs.Lookups.{size-type, size-first, size-next, size-start, size-is}
-use Rattle.evaluator.proofs.size_of.Statement.{statement}
-use Rattle.evaluator.proofs.size_of.Tie as tie
+use Rattle.lookups.proofs.Lookups.{size-type, size-first, size-next, size-start, size-is}
+use Rattle.lookups.proofs.size_of.Statement.{statement}
+use Rattle.lookups.proofs.size_of.Tie as tie
 
 returns : tie.Need-returns
 returns c t h = size-type t _ (c .if1 .taken)

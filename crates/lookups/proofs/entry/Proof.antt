@@ -1,12 +1,12 @@
--- `evaluator::entry` meets its contract. Assumes nothing.
+-- `lookups::entry` meets its contract. Assumes nothing.
 use Prim.Native.Nat.{ℕ, _<_}
 use mathlib.Core.Path.{sym, ap, subst}
 use mathlib.Core.List.{List}
 use borrow.Author.Needs.{needs}
 use lib.ListN.{length, getD}
 use Rattle.steps.proofs.Memory.{element}
-use Rattle.evaluator.proofs.entry.Statement.{statement}
-use Rattle.evaluator.proofs.entry.Tie as tie
+use Rattle.lookups.proofs.entry.Statement.{statement}
+use Rattle.lookups.proofs.entry.Tie as tie
 
 index-2-result : tie.Need-index-2-result
 index-2-result c = subst (λ (l : List ℕ). c .args .i < length l) (element (c .args .l .now) (c .args .j)) (c .pre .2)

@@ -1,9 +1,9 @@
--- `evaluator::record` meets its contract. Assumes nothing.
+-- `lookups::record` meets its contract. Assumes nothing.
 use borrow.Author.Needs.{needs}
 use native.Mathlib.Omega.{arith}
-use Rattle.evaluator.proofs.Lookups.{item-inside, child-inside, pointer-type, record-target, record-is}
-use Rattle.evaluator.proofs.record.Statement.{statement}
-use Rattle.evaluator.proofs.record.Tie as tie
+use Rattle.lookups.proofs.Lookups.{item-inside, child-inside, pointer-type, record-target, record-is}
+use Rattle.lookups.proofs.record.Statement.{statement}
+use Rattle.lookups.proofs.record.Tie as tie
 
 target-requires : tie.Need-target-requires
 target-requires c κs =
