@@ -13,14 +13,14 @@ use Rattle.semantics.specs.Syntax.{value-of, step-of}
 use Rattle.semantics.specs.Check.{is-child}
 use Rattle.semantics.specs.Rules.{Datum, Location, Event, State, Outcome, unbounded, bind, variable-location, address-step, sum-step, place-at, value-at}
 use Rattle.semantics.proofs.Passed.{require-passes}
-use Rattle.semantics.proofs.Trees.{Node-ok, node-ok, is-child-true, types-known}
+use Rattle.semantics.proofs.Trees.{Node-ok, node-ok, is-child-true}
 use Rattle.semantics.proofs.Invariant.{Inv, Datum-ok, Good, good-ok}
 use Rattle.semantics.proofs.Steps.{Value-ok, place-good, value-good}
 use Rattle.lookups.specs.Lists.{part, Lists, Field-node, Field-ready, Known-word, Known-ready}
 use Rattle.steps.specs.Answers.{column, failed, state-of, Kept, Bounded, answers-ok, answers-failed, answers-full, Datum-answers, Location-answers, Variable-answered, Deref-answered, Field-answered, Sum-answered, Load-answered, Cast-answered, Malloc-answered}
 use Rattle.evaluator.specs.Result.{Node-ready, Reads-variable, Ready, Place-ready, Pointed-ready, Value-ready, Place-answered, Value-answered, Assigned-answered}
 use Rattle.steps.proofs.Finish.{passed-on, touched}
-use Rattle.lookups.proofs.Lookups.{item-inside, type-inside, item-is}
+use Rattle.lookups.proofs.Lookups.{item-inside, type-inside, item-is, noted-type}
 use Rattle.evaluator.proofs.Nodes.{place-kind, value-kind, value-node, field-kind, size-kind, read-kind, Value-child, Place-child, offset-of, count-of, cast-keeps, constant-node, size-node, variable-node, deref-node, field-node, sum-node, read-node, address-node, cast-node, malloc-node}
 
 -- ---- a node's words, as the lists have them
@@ -35,17 +35,10 @@ module _ {t : Words} {l : List Words} (lists : Lists t l) {n : ℕ} (node : n < 
   b-is : {a : ℕ} → a ≡ part l n 2 → a ≡ node-b t n
   b-is p = item-is lists node 2 (omega arith) p
 
--- The type that the lists have of a value is the node's, and known.
-noted-type : {vars : ℕ} {t : Words} {l : List Words} {a y : ℕ} (lists : Lists t l) → a < count t nodes → Value-ok vars (value-of t a) → y ≡ word (column l 1) a
-    → (y ≡ node-type t a) × Known-word known-type t l y
-noted-type {t = t} {a = a} lists inside tree e =
-    let same = e ∙ lists .type-is a inside (value-node t a tree) in
-    (same, record { lists = lists; known = rw same (types-known (lists .passed .types) (count t nodes) (lists .passed .node-passes) a inside) })
-
--- A step that was found by that type goes by the node's.
+-- A step that was found by the type that the lists have of a value goes by the node's.
 step-is : {vars : ℕ} {t : Words} {l : List Words} {a y z : ℕ} → Lists t l → a < count t nodes → Value-ok vars (value-of t a) → y ≡ word (column l 1) a
     → ((t : Words) → Known-word known-type t l y → z ≡ step-of t y) → z ≡ step-of t (node-type t a)
-step-is {t = t} lists inside tree e found = let noted = noted-type lists inside tree e in rw (noted .0) at (found t (noted .1))
+step-is {t = t} {a = a} lists inside tree e found = let noted = noted-type lists inside (value-node t a tree) e in rw (noted .0) at (found t (noted .1))
 
 -- A size's target is known.
 size-known : (t : Words) (n : ℕ) {l : List Words} → item t nodes n 0 ≡ 9 → Lists t l → n < count t nodes → known-target t (node-a t n) ≡ true
@@ -138,6 +131,10 @@ module _ {l m : List Words} {n : ℕ} {s : Words} (h : Value-ready l m n s) wher
   pub value-type : (n < 512) × (n < length (column l 1))
   value-type = type-inside (h .lists) (h .node)
 
+  -- So has a child.
+  pub child-type : {a : ℕ} {R : Type 0} → (a < n) × R → (a < 512) × (a < length (column l 1))
+  child-type less = type-inside (h .lists) (omega (arith, less .0, h .node))
+
   module _ {k : ℕ} (e : k ≡ part l n 0) where
     is : {x : ℕ} → k ≡ x → item (h .table) nodes n 0 ≡ x
     is q = kind-is (h .lists) (h .node) e q
@@ -158,13 +155,10 @@ module _ {l m : List Words} {n : ℕ} {s : Words} (h : Value-ready l m n s) wher
       pub sum-ready : k ≡ 5 → (a < n) × Value-ready l m a s
       sum-ready q = a-ready (sum-node (h .table) n (is q) (h .tree) .0) (a-is (h .lists) (h .node) p)
 
-      pub left-type : k ≡ 5 → (a < 512) × (a < length (column l 1))
-      left-type q = type-inside (h .lists) (omega (arith, sum-ready q .0, h .node))
-
       pub step-ready : {y : ℕ} → k ≡ 5 → y ≡ word (column l 1) a → Known-ready known-type l y
       step-ready q e =
           let tree = rw (← a-is (h .lists) (h .node) p) at (sum-node (h .table) n (is q) (h .tree) .0 .tree) in
-          record { table = h .table; is-known = noted-type (h .lists) (omega (arith, sum-ready q .0, h .node)) tree e .1 }
+          record { table = h .table; is-known = noted-type (h .lists) (omega (arith, sum-ready q .0, h .node)) (value-node (h .table) a tree) e .1 }
 
       pub read-ready : k ≡ 6 → (a < n) × Place-ready l m a s
       read-ready q = p-ready (read-node (h .table) n (is q) (h .tree) .0) (a-is (h .lists) (h .node) p)
@@ -206,9 +200,6 @@ module _ {l m : List Words} {n : ℕ} {s : Words} (h : Value-ready l m n s) wher
 
       pub variable-under : {j i : ℕ} → k ≡ 6 → j ≡ part l a 0 → j ≡ 1 → i ≡ part l a 1 → i + 1 < failed
       variable-under q f r g = omega (arith, variable-inside q f r g .0, h .state .most)
-
-      pub cast-type : k ≡ 8 → (a < 512) × (a < length (column l 1))
-      cast-type q = type-inside (h .lists) (omega (arith, cast-ready q .0, h .node))
 
       module _ {d : ℕ} (g : d ≡ part l n 2) (q : k ≡ 5) where
         right-less : d < n
@@ -426,7 +417,7 @@ module _ {l m : List Words} {n : ℕ} {s : Words} {k a : ℕ} (e : k ≡ part l 
             let p′ = a-is lists node p in
             let tree = rw (← p′) at (nd .0 .tree) in
             let inside : a < count t nodes = omega (arith, nd .0 .less, p′) in
-            let from′ : from ≡ node-type t (node-a t n) = rw (← p′) (noted-type lists inside tree hf .0) in
+            let from′ : from ≡ node-type t (node-a t n) = rw (← p′) (noted-type lists inside (value-node t a tree) hf .0) in
             let y′ : is-pointer y ≡ cast-keeps t n = rw (← from′, ← b-is lists node ht) hy in
             rw (nd .1, ← y′, ← p′, hr, kept .unused) (answer .meets m _ _ (child .meets t lists inside vars log inv tree));
       }

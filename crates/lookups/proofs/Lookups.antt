@@ -1,7 +1,7 @@
 -- Laws of what the evaluator looks up in a table's lists: nodes, targets, fields, sizes and offsets.
 use Prim.Native.Nat.{ℕ, zero, suc, _+_, _*_, _-_, _≤_, _<_}
 use mathlib.Core.Bool.{true}
-use mathlib.Core.Path.{_≡_, sym, _∙_}
+use mathlib.Core.Path.{_≡_, refl, sym, _∙_}
 use mathlib.Core.Logic.{⊎-elim}
 use mathlib.Core.List.{List}
 use native.Mathlib.Omega.{arith}
@@ -10,7 +10,7 @@ use borrow.Author.Tests.{lt-leb, le-leb, lt-ltb, le-ltb, ltb-true, leb-true, eqb
 use lib.Dec.{leb, ltb, eqb}
 use lib.ListN.{length}
 use Rattle.semantics.specs.Words.{Words, word, if_then_else_, sum-below}
-use Rattle.semantics.specs.Table.{records, fields, pointers, nodes, count, item, known-type, known-target, target, points-to-record, pointed-record, field-total, first-field, field-offset, field-count, size-of, field, value, node-a, node-b, node-type}
+use Rattle.semantics.specs.Table.{records, fields, pointers, nodes, count, item, known-type, known-target, target, points-to-record, pointed-record, field-total, first-field, field-offset, field-count, size-of, field, value, sort-of, node-kind, node-a, node-b, node-type}
 use Rattle.semantics.specs.Syntax.{step-of}
 use Rattle.semantics.specs.Check.{field-sum-fault, is-child}
 use Rattle.semantics.proofs.Passed.{Types-passed, section-ok, require-passes, target-known, record-known, field-in}
@@ -45,6 +45,13 @@ module _ {t : Words} {l : List Words} (lists : Lists t l) {n : ℕ} (node : n < 
 
   pub item-is : (j : ℕ) {x : ℕ} → j < 3 → x ≡ part l n j → x ≡ item t nodes n j
   item-is j h e = e ∙ lists .node-is n j node h
+
+-- The type that the lists have of a value is the node's, and known.
+pub noted-type : {t : Words} {l : List Words} {a y : ℕ} (lists : Lists t l) → a < count t nodes → sort-of (node-kind t a) ≡ value → y ≡ word (column l 1) a
+    → (y ≡ node-type t a) × Known-word known-type t l y
+noted-type {t} {a = a} lists inside sort e =
+    let same = e ∙ lists .type-is a inside sort in
+    (same, record { lists = lists; known = rw same (types-known (lists .passed .types) (count t nodes) (lists .passed .node-passes) a inside) })
 
 -- ---- records
 
@@ -127,12 +134,13 @@ field-found {t} {l} {n} h =
     let g : Node-ok t n field (node-a t n) (node-b t n) = rw (h .kind) at (node-ok t n (ok .node-passes n (h .node))) in
     let ch = is-child-true t value n (node-a t n) (require-passes (is-child t value n (node-a t n)) 7 _ (g .a-ok)) in
     let inside : node-a t n < count t nodes = omega (arith, ch .0, h .node) in
-    let known = types-known (ok .types) (count t nodes) (ok .node-passes) (node-a t n) inside in
+    let noted = noted-type (h .lists) inside (sym (ch .1)) refl in
+    let known : known-type t (node-type t (node-a t n)) ≡ true = rw (noted .0) at (noted .1 .known) in
     let fit = and-true (points-to-record t (node-type t (node-a t n))) _ (g .fit) in
     let points = and-true (leb 2 (node-type t (node-a t n))) (leb 65536 (target t (node-type t (node-a t n)))) (fit .0) in
     record {
       child = ch .0;
-      type = h .lists .type-is (node-a t n) inside (sym (ch .1));
+      type = noted .0;
       known = known;
       entry = leb-true 2 (node-type t (node-a t n)) (points .0);
       far = leb-true 65536 (target t (node-type t (node-a t n))) (points .1);

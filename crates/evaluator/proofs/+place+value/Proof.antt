@@ -30,7 +30,7 @@ use Rattle.steps.proofs.words.Reads as words-reads
 use Rattle.layout.proofs.long.Reads as long-reads
 use Rattle.evaluator.proofs.+place+value.{statement}
 use Rattle.evaluator.proofs.+place+value.Tie.{close}
-use Rattle.evaluator.proofs.Evaluation.{falls-to, falls-through, pointed-ready, reads, malloc-item, malloc-constant-answer, place-item, variable-small, child-ready, value-item, value-type, sum-ready, left-type, step-ready, right-item, right-ready, read-ready, read-item, read-inside, address-ready, cast-ready, cast-type, size-ready, malloc-kind, malloc-ready, variable-answer, constant-answer, size-answer, sum-ended-answer, sum-answer, sum-constant-answer, read-answer, address-answer, cast-answer, malloc-answer}
+use Rattle.evaluator.proofs.Evaluation.{falls-to, falls-through, pointed-ready, reads, malloc-item, malloc-constant-answer, place-item, variable-small, child-ready, value-item, value-type, sum-ready, child-type, step-ready, right-item, right-ready, read-ready, read-item, read-inside, address-ready, cast-ready, size-ready, malloc-kind, malloc-ready, variable-answer, constant-answer, size-answer, sum-ended-answer, sum-answer, sum-constant-answer, read-answer, address-answer, cast-answer, malloc-answer}
 
 abbrev μ-place : Measures 5 place-kinds.ps ℕ
 μ-place κs a = a .1 .1 .0
@@ -81,7 +81,7 @@ pub +place+value-spec : {M : Type 1} → statement M
     (λ c κs. falls-to (c .before .before .before .before .pre .0) (sum-ready (c .before .before .before .before .pre .1) (c .before .before .before .item .ensures) (c .before .child .ensures) (c .before .before .match .keys2)))
     (λ c. sum-ended-answer (c .before .before .before .before .before .item .ensures) (c .before .before .before .child .ensures) (c .before .before .before .before .match .keys2) (c .before .value .ensures) (c .if1 .taken))
     (λ c κs. value-item (c .before .before .before .before .before .before .pre .1) 1 (omega arith))
-    (λ c κs. left-type (c .before .before .before .before .before .before .before .pre .1) (c .before .before .before .before .before .before .item .ensures) (c .child2 .ensures) (c .before .before .before .before .before .match .keys2))
+    (λ c κs. child-type (c .before .before .before .before .before .before .before .pre .1) (sum-ready (c .before .before .before .before .before .before .before .pre .1) (c .before .before .before .before .before .before .item .ensures) (c .child2 .ensures) (c .before .before .before .before .before .match .keys2)))
     (λ c κs. step-ready (c .before .before .before .before .before .before .before .before .pre .1) (c .before .before .before .before .before .before .before .item .ensures) (c .before .child2 .ensures) (c .before .before .before .before .before .before .match .keys2) (c .type-of .ensures))
     (λ c κs. value-item (c .before .before .before .before .before .before .before .before .before .pre .1) 2 (omega arith))
     (λ c κs. right-item (c .before .before .before .before .before .before .before .before .before .before .pre .1) (c .before .before .before .before .before .before .before .before .before .item .ensures) (c .before .before .before .before .before .before .before .child .ensures) (c .child3 .ensures) (c .before .before .before .before .before .before .before .before .match .keys2) 0 (omega arith))
@@ -105,7 +105,7 @@ pub +place+value-spec : {M : Type 1} → statement M
     (λ c κs. falls-to (c .before .before .before .before .pre .0) (address-ready (c .before .before .before .before .pre .1) (c .before .before .before .item .ensures) (c .before .child5 .ensures) (c .before .before .match .keys4)))
     (λ c κs. value-item (c .before .before .pre .1) 1 (omega arith))
     (λ c κs. falls-to (c .before .before .before .before .pre .0) (cast-ready (c .before .before .before .before .pre .1) (c .before .before .before .item .ensures) (c .before .child6 .ensures) (c .before .before .match .keys5)))
-    (λ c κs. cast-type (c .before .before .before .before .before .pre .1) (c .before .before .before .before .item .ensures) (c .before .before .child6 .ensures) (c .before .before .before .match .keys5))
+    (λ c κs. child-type (c .before .before .before .before .before .pre .1) (cast-ready (c .before .before .before .before .before .pre .1) (c .before .before .before .before .item .ensures) (c .before .before .child6 .ensures) (c .before .before .before .match .keys5)))
     (λ c κs. value-item (c .before .before .before .before .before .before .pre .1) 2 (omega arith))
     (λ c κs. search needs)
     (λ c κs. c .before .before .before .before .value3 .ensures .room)
