@@ -3,6 +3,7 @@ pub mod Examples
 pub mod Tests
 pub mod Lists
 pub mod Passed
+pub mod Sizes
 pub mod Invariant
 pub mod Steps
 pub mod Registers

@@ -1,5 +1,5 @@
 -- Laws of the definitions of specs/Words.antt.
-use Prim.Native.Nat.{ℕ, zero, suc, _+_, _≤_, _<_}
+use Prim.Native.Nat.{ℕ, zero, suc, _+_, _*_, _≤_, _<_}
 use mathlib.Core.Path.{_≡_, refl, _∙_}
 use mathlib.Core.List.{List, [], _∷_, _++_}
 use native.Mathlib.Omega.{arith}
@@ -43,3 +43,19 @@ rises f step m (suc n) h = go (ℕ-discrete m (suc n)) (rises f step m n)
 pub sum-below-≤ : (f : ℕ → ℕ) (m n : ℕ) → m ≤ n → sum-below m f ≤ sum-below n f
 unfolding sum-below
 sum-below-≤ f = rises (λ n. sum-below n f) (λ n. omega arith)
+
+-- A sum in two parts: the first m terms, and k terms from there on.
+pub sum-below-+ : (f : ℕ → ℕ) (m k : ℕ) → sum-below (m + k) f ≡ sum-below m f + sum-below k (λ i. f (m + i))
+unfolding sum-below
+sum-below-+ f m zero =
+    let e : m + 0 ≡ m = omega arith in
+    rw e (omega arith)
+sum-below-+ f m (suc k) =
+    let e : m + suc k ≡ suc (m + k) = omega arith in
+    rw e (omega (arith, sum-below-+ f m k))
+
+-- A sum of n terms that are at most c each.
+pub sum-below-most : (f : ℕ → ℕ) (c n : ℕ) → ((i : ℕ) → i < n → f i ≤ c) → sum-below n f ≤ n * c
+unfolding sum-below
+sum-below-most f c zero h = omega arith
+sum-below-most f c (suc n) h = omega (arith, sum-below-most f c n (λ i less. h i (omega arith)), h n (omega arith))

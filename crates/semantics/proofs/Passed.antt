@@ -154,9 +154,12 @@ record-known {t} ok ty known points =
     (λ e. omega (arith, ltb-true (target t ty) (65536 + count t records) (and-true (leb 65536 (target t ty)) (ltb (target t ty) (65536 + count t records)) e .1), more))
     (or-true (ltb (target t ty) (entry-type (count t pointers))) _ (target-known ok ty known (leb-true 2 ty (p .0))))
 
--- A record's field is one of the table's.
-pub field-in : {t : Words} → Types-passed t → (r f : ℕ) → r < count t records → f < field-total t r → first-field t r + f < count t fields
+-- A record's fields are of the table's.
+pub fields-in : {t : Words} → Types-passed t → (r : ℕ) → r < count t records → first-field t r + field-total t r ≤ count t fields
 unfolding field-sum-fault first-field sum-below
-field-in {t} ok r f hr hf =
+fields-in {t} ok r h =
     let e = eqb-true (first-field t (count t records)) (count t fields) (require-passes (eqb (first-field t (count t records)) (count t fields)) _ _ (ok .field-sum)) in
-    omega (arith, sum-below-≤ (field-total t) (suc r) (count t records) hr, e)
+    omega (arith, sum-below-≤ (field-total t) (suc r) (count t records) h, e)
+
+pub field-in : {t : Words} → Types-passed t → (r f : ℕ) → r < count t records → f < field-total t r → first-field t r + f < count t fields
+field-in ok r f hr hf = omega (arith, fields-in ok r hr)
