@@ -19,7 +19,7 @@ pub enum Ended {
 
 // Works out a command's place, which goes to `at`, and then its value.
 fn evaluate<'a>(
-    l: &[&[u32]; 6],
+    l: &[&[u32]; 7],
     values: &'a [u32],
     bases: &'a [u32],
     ends: &'a [u32],
@@ -64,7 +64,7 @@ fn store(
 
 // One command: the place, the value, the store.
 fn command(
-    l: &[&[u32]; 6],
+    l: &[&[u32]; 7],
     values: &mut [u32],
     bases: &mut [u32],
     ends: &mut [u32],
@@ -90,7 +90,7 @@ pub fn execute(
     t: &[u32],
     at: usize,
     total: u32,
-    l: &[&[u32]; 6],
+    l: &[&[u32]; 7],
     first: u32,
     values: &mut [u32],
     bases: &mut [u32],

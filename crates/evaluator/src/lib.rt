@@ -33,7 +33,7 @@ use steps::variable;
 use steps::words;
 
 // The size that node n asks for, a number.
-fn size(l: &[&[u32]; 6], n: usize, s: &mut [u32; 3]) -> u64
+fn size(l: &[&[u32]; 7], n: usize, s: &mut [u32; 3]) -> u64
     requires { ⌜ (n < 512) × (n * 3 + 1 < length (column (map (λ x. now x) (now l)) 0)) × (length (now s) ≡ 3) ⌝ }
     requires { ⌜ Known-ready known-target (map (λ x. now x) (now l)) (part (map (λ x. now x) (now l)) n 1) ⌝ }
     ensures { λ r. ⌜ ((t : Words) → Known-word known-target t (map (λ x. now x) (now (l .entry))) (part (map (λ x. now x) (now (l .entry))) n 1) → r ≡ size-of t (part (map (λ x. now x) (now (l .entry))) n 1)) ⌝ }
@@ -44,7 +44,7 @@ fn size(l: &[&[u32]; 6], n: usize, s: &mut [u32; 3]) -> u64
 }
 
 // Whether node n reads a variable: then it is worked out without a call.
-fn reads_variable(l: &[&[u32]; 6], n: usize) -> bool
+fn reads_variable(l: &[&[u32]; 7], n: usize) -> bool
     requires { ⌜ Node-ready (map (λ x. now x) (now l)) n ⌝ }
     ensures { λ r. ⌜ (r ≡ true → Reads-variable (map (λ x. now x) (now (l .entry))) n) ⌝ }
 {
@@ -55,7 +55,7 @@ fn reads_variable(l: &[&[u32]; 6], n: usize) -> bool
 }
 
 // The value of node n, which reads a variable.
-fn read_variable(l: &[&[u32]; 6], m: &[&[u32]; 3], n: usize, s: &mut [u32; 3]) -> u64
+fn read_variable(l: &[&[u32]; 7], m: &[&[u32]; 3], n: usize, s: &mut [u32; 3]) -> u64
     requires { ⌜ (Value-ready (map (λ x. now x) (now l)) (map (λ x. now x) (now m)) n (now s)) × (Reads-variable (map (λ x. now x) (now l)) n) ⌝ }
     ensures { λ r. ⌜ Value-answered (map (λ x. now x) (now (l .entry))) (map (λ x. now x) (now (m .entry))) n (now (s .entry)) r (now (s .exit)) ⌝ }
 {
@@ -64,7 +64,7 @@ fn read_variable(l: &[&[u32]; 6], m: &[&[u32]; 3], n: usize, s: &mut [u32; 3]) -
 }
 
 // The place that node n of this kind, no variable, is from what its child answered, v.
-fn pointed(l: &[&[u32]; 6], n: usize, kind: u32, v: u64, s: &mut [u32; 3]) -> u64
+fn pointed(l: &[&[u32]; 7], n: usize, kind: u32, v: u64, s: &mut [u32; 3]) -> u64
     requires { ⌜ Pointed-ready (map (λ x. now x) (now l)) n kind (now s) ⌝ }
     ensures { λ r. ⌜ ((m : List Words) (a : ℕ) (s₀ : Words) → Value-answered (map (λ x. now x) (now (l .entry))) m a s₀ v (now (s .entry)) → kind ≡ part (map (λ x. now x) (now (l .entry))) n 0 → a ≡ part (map (λ x. now x) (now (l .entry))) n 1 → Place-answered (map (λ x. now x) (now (l .entry))) m n s₀ r (now (s .exit))) ⌝ }
 {
@@ -75,7 +75,7 @@ fn pointed(l: &[&[u32]; 6], n: usize, kind: u32, v: u64, s: &mut [u32; 3]) -> u6
 }
 
 // The place that node n is, with its bounds. A pointer that is read is read here, without a call of `value`.
-pub fn place(l: &[&[u32]; 6], m: &[&[u32]; 3], n: usize, s: &mut [u32; 3]) -> u64
+pub fn place(l: &[&[u32]; 7], m: &[&[u32]; 3], n: usize, s: &mut [u32; 3]) -> u64
     requires { ⌜ Place-ready (map (λ x. now x) (now l)) (map (λ x. now x) (now m)) n (now s) ⌝ }
     ensures { λ r. ⌜ Place-answered (map (λ x. now x) (now (l .entry))) (map (λ x. now x) (now (m .entry))) n (now (s .entry)) r (now (s .exit)) ⌝ }
 {
@@ -100,7 +100,7 @@ pub fn place(l: &[&[u32]; 6], m: &[&[u32]; 3], n: usize, s: &mut [u32; 3]) -> u6
 
 // The value that node n has, with its bounds. Where no call is needed for a child, a variable that is read or a constant that is
 // added or obtained, none is made.
-pub fn value(l: &[&[u32]; 6], m: &[&[u32]; 3], n: usize, s: &mut [u32; 3]) -> u64
+pub fn value(l: &[&[u32]; 7], m: &[&[u32]; 3], n: usize, s: &mut [u32; 3]) -> u64
     requires { ⌜ Value-ready (map (λ x. now x) (now l)) (map (λ x. now x) (now m)) n (now s) ⌝ }
     ensures { λ r. ⌜ Value-answered (map (λ x. now x) (now (l .entry))) (map (λ x. now x) (now (m .entry))) n (now (s .entry)) r (now (s .exit)) ⌝ }
 {
@@ -148,7 +148,7 @@ pub fn value(l: &[&[u32]; 6], m: &[&[u32]; 3], n: usize, s: &mut [u32; 3]) -> u6
 }
 
 // The value that a command assigns, node n: for a constant or a variable that is read, with no call.
-pub fn result(l: &[&[u32]; 6], m: &[&[u32]; 3], n: usize, s: &mut [u32; 3]) -> u64
+pub fn result(l: &[&[u32]; 7], m: &[&[u32]; 3], n: usize, s: &mut [u32; 3]) -> u64
     requires { ⌜ Value-ready (map (λ x. now x) (now l)) (map (λ x. now x) (now m)) n (now s) ⌝ }
     ensures { λ r. ⌜ Value-answered (map (λ x. now x) (now (l .entry))) (map (λ x. now x) (now (m .entry))) n (now (s .entry)) r (now (s .exit)) ⌝ }
 {
@@ -162,7 +162,7 @@ pub fn result(l: &[&[u32]; 6], m: &[&[u32]; 3], n: usize, s: &mut [u32; 3]) -> u
 }
 
 // The place that a command assigns to, node n: for a variable its word, with no more work. Its bounds are not asked.
-pub fn assigned(l: &[&[u32]; 6], m: &[&[u32]; 3], n: usize, s: &mut [u32; 3]) -> u64
+pub fn assigned(l: &[&[u32]; 7], m: &[&[u32]; 3], n: usize, s: &mut [u32; 3]) -> u64
     requires { ⌜ Place-ready (map (λ x. now x) (now l)) (map (λ x. now x) (now m)) n (now s) ⌝ }
     ensures { λ r. ⌜ Assigned-answered (map (λ x. now x) (now (l .entry))) (map (λ x. now x) (now (m .entry))) n (now (s .entry)) r (now (s .exit)) ⌝ }
 {

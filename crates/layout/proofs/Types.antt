@@ -15,8 +15,9 @@ use Rattle.semantics.specs.Table.{records, fields, pointers, variables, count-p
 use Rattle.semantics.specs.Check.{Verdict, passes, refused, _or-else_, require, each, record-fault, field-sum-fault, field-fault, pointer-fault, variable-fault}
 use Rattle.semantics.proofs.Tests.{and-true, or-true}
 use Rattle.semantics.proofs.Lists.{sum-below-≤}
+use Rattle.semantics.proofs.Passed.{Types-passed, section-ok, fields-in}
 use Rattle.layout.specs.Layout.{Stands}
-use Rattle.layout.specs.Types.{types-fault, words-before, slot, mark-below, Marks}
+use Rattle.layout.specs.Types.{types-fault, slot, mark-below, Tabulated, Record-in, Marks}
 use Rattle.layout.specs.declared.Section.{Section}
 use Rattle.layout.proofs.Laws.{require-holds, require-refuses, or-else-pass, or-else-refuse, sum-more, place-at, item-at}
 
@@ -79,6 +80,17 @@ pub first-≤ : (t : Words) (m n : ℕ) → m ≤ n → first-field t m ≤ firs
 unfolding first-field
 first-≤ t m n h = sum-below-≤ (field-total t) m n h
 
+-- Each record of a table whose types pass, as the list has it.
+pub record-in : {t first : Words} → Types-passed t → Tabulated first (count t records) (first-field t) → (r : ℕ) → r < count t records → Record-in t first r
+unfolding first-field
+record-in {t} ok firsts r h =
+    record {
+      few = omega (arith, section-ok t 0 (ok .sections 0 (omega arith)) .limited);
+      start = firsts .holds r (omega arith);
+      next = firsts .holds (r + 1) (omega arith) ∙ sum-more (field-total t) r;
+      inside = fields-in ok r h;
+    }
+
 -- ---- variables
 
 module _ {t : Words} {l : Section} (h : Stands t 3 l) (i : ℕ) where
@@ -118,10 +130,6 @@ module _ {t : Words} {l : Section} (h : Stands t 1 l) (i p : ℕ) (e : p ≡ l .
 
   pub field-passes : true ≡ known-type t (word t p) → 1 ≤ word t (p + 1) → word t (p + 1) ≤ 4096 → field-fault t i ≡ passes
   field-passes k n m = field-words k ∙ require-holds _ 4 (p + 1) (rw (lt-ltb 0 (word t (p + 1)) (omega arith), le-leb (word t (p + 1)) 4096 m) refl)
-
-  pub before-more : words-before t (i + 1) ≡ words-before t i + word t (p + 1)
-  unfolding words-before
-  before-more = sum-more (λ (k : ℕ). item t fields k 1) i ∙ rw words-at refl
 
 -- ---- pointers
 

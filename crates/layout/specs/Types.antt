@@ -1,11 +1,11 @@
 -- The check of sections 1 to 4 and what it notes for the check of nodes.
-use Prim.Native.Nat.{ℕ, _+_, _-_, _≤_}
+use Prim.Native.Nat.{ℕ, _+_, _-_, _≤_, _<_}
 use mathlib.Core.Bool.{true}
 use mathlib.Core.Path.{_≡_}
 use lib.Dec.{ltb}
 use lib.ListN.{length, replicate}
-use Rattle.semantics.specs.Words.{Words, word, if_then_else_, sum-below}
-use Rattle.semantics.specs.Table.{records, fields, pointers, variables, count, item, record-target, known-target, entry-type, entry-below, first-field}
+use Rattle.semantics.specs.Words.{Words, word, if_then_else_}
+use Rattle.semantics.specs.Table.{records, fields, pointers, variables, count, record-target, known-target, entry-type, entry-below, field-total, first-field}
 use Rattle.layout.specs.Layout.{verdict-of}
 use Rattle.layout.specs.declared.Verdict as answer
 use Rattle.semantics.specs.Check.{Verdict, passes, _or-else_, each, record-fault, field-sum-fault, field-fault, pointer-fault, variable-fault}
@@ -18,10 +18,6 @@ types-fault t =
     or-else each (count t fields) (field-fault t)
     or-else each (count t pointers) (pointer-fault t)
     or-else each (count t variables) (variable-fault t)
-
--- The words of all fields before field f, over all records.
-unfoldable pub words-before : Words → ℕ → ℕ
-words-before t f = sum-below f (λ i. item t fields i 1)
 
 -- Where the pointer to the target x is noted: 66 types, then 32 records.
 unfoldable pub slot : ℕ → ℕ
@@ -38,14 +34,20 @@ entry-mark t x = mark-below t (count t pointers) x
 pub record Tabulated (l : Words) (n : ℕ) (g : ℕ → ℕ) : Type 0 where
   pub holds : (k : ℕ) → k ≤ n → word l k ≡ g k
 
+-- The list has the first field of record r and that of the next; all between are of the table's.
+pub record Record-in (t first : Words) (r : ℕ) : Type 0 where
+  pub few : r < 32
+  pub start : word first r ≡ first-field t r
+  pub next : word first (r + 1) ≡ first-field t r + field-total t r
+  pub inside : first-field t r + field-total t r ≤ count t fields
+
 -- The list holds the pointers to known targets by the first n entries.
 pub record Marks (t entry : Words) (n : ℕ) : Type 0 where
   pub mark-is : (x : ℕ) → known-target t x ≡ true → word entry (slot x) ≡ mark-below t n x
 
 -- Lists in which the check notes what it finds.
-pub record Room (first before entry : Words) : Type 0 where
+pub record Room (first entry : Words) : Type 0 where
   pub first-length : length first ≡ 33
-  pub before-length : length before ≡ 129
   pub entry-clear : entry ≡ replicate 98 0
 
 -- The answer is the verdict v, and where that passes P holds.
@@ -54,7 +56,6 @@ pub record Checked (r : answer.Verdict) (v : Verdict) (P : Type 0) : Type 0 wher
   pub found : v ≡ passes → P
 
 -- All that the check of nodes looks up.
-pub record Looked-up (t first before entry : Words) : Type 0 where
+pub record Looked-up (t first entry : Words) : Type 0 where
   pub firsts : Tabulated first (count t records) (first-field t)
-  pub befores : Tabulated before (count t fields) (words-before t)
   pub marks : Marks t entry (count t pointers)

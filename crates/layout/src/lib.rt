@@ -6,7 +6,7 @@ ghost use Rattle.semantics.specs.Words.{Words, word};
 ghost use Rattle.semantics.specs.Table.{count-place, count, entry-words, limits, known-type, known-target, first-field};
 ghost use Rattle.semantics.specs.Check.{each, section-fault, record-fault, field-fault, pointer-fault, variable-fault};
 ghost use Rattle.layout.specs.Layout.{verdict-of, section-by, parsed, Stands, Laid-out};
-ghost use Rattle.layout.specs.Types.{types-fault, slot, words-before, Tabulated, Marks, Room, Checked, Looked-up};
+ghost use Rattle.layout.specs.Types.{types-fault, slot, Tabulated, Marks, Room, Checked, Looked-up};
 
 // Where a section's first entry stands, and how many entries it has.
 pub struct Section {
@@ -220,15 +220,13 @@ fn note_first(t: &[u32], records: Section, first: &mut [u32; 33])
     }
 }
 
-// 5 and 4 for the first field of an unknown type or of a wrong count of words. Notes the words before each field, and of all.
-fn check_fields(t: &[u32], fields: Section, pointers: usize, before: &mut [u32; 129]) -> Verdict
-    requires { ⌜ (Stands (now t) 1 fields) × (pointers ≡ count (now t) 2) × (pointers ≤ 64) × (length (now before) ≡ 129) ⌝ }
-    ensures { λ r. ⌜ Checked r (each (count (now (t .entry)) 1) (field-fault (now (t .entry)))) (Tabulated (now (before .exit)) (count (now (t .entry)) 1) (words-before (now (t .entry)))) ⌝ }
+// 5 and 4 for the first field of an unknown type or of a wrong count of words.
+fn check_fields(t: &[u32], fields: Section, pointers: usize) -> Verdict
+    requires { ⌜ (Stands (now t) 1 fields) × (pointers ≡ count (now t) 2) × (pointers ≤ 64) ⌝ }
+    ensures { λ r. ⌜ verdict-of r ≡ each (count (now (t .entry)) 1) (field-fault (now (t .entry))) ⌝ }
 {
     let at = fields.at;
     let count = fields.count;
-    let mut sum = 0;
-    before[0] = 0;
     for i in 0..count {
         let field = at + 2 * i;
         if !known_type(pointers, t[field]) {
@@ -239,8 +237,6 @@ fn check_fields(t: &[u32], fields: Section, pointers: usize, before: &mut [u32; 
         if words < 1 || Table::FIELD_WORDS < words {
             return Verdict::Refused(4, words_at);
         }
-        sum += words;
-        before[i + 1] = sum;
     }
     Verdict::Passes
 }
@@ -285,17 +281,11 @@ fn check_variables(t: &[u32], variables: Section, pointers: usize) -> Verdict
     Verdict::Passes
 }
 
-// Refusals 4 to 6 of sections 1 to 4. Where these pass, the three lists are filled with what the check of nodes looks up.
-pub fn check_types(
-    t: &[u32],
-    l: Table,
-    first: &mut [u32; 33],
-    before: &mut [u32; 129],
-    entry: &mut [u32; 98],
-) -> Verdict
+// Refusals 4 to 6 of sections 1 to 4. Where these pass, the two lists are filled with what the check of nodes looks up.
+pub fn check_types(t: &[u32], l: Table, first: &mut [u32; 33], entry: &mut [u32; 98]) -> Verdict
     requires { ⌜ Laid-out (now t) l ⌝ }
-    requires { ⌜ Room (now first) (now before) (now entry) ⌝ }
-    ensures { λ r. ⌜ Checked r (types-fault (now (t .entry))) (Looked-up (now (t .entry)) (now (first .exit)) (now (before .exit)) (now (entry .exit))) ⌝ }
+    requires { ⌜ Room (now first) (now entry) ⌝ }
+    ensures { λ r. ⌜ Checked r (types-fault (now (t .entry))) (Looked-up (now (t .entry)) (now (first .exit)) (now (entry .exit))) ⌝ }
 {
     let records = l.records;
     let fields = l.fields;
@@ -309,7 +299,7 @@ pub fn check_types(
         return Verdict::Refused(4, place);
     }
     note_first(t, records, first);
-    if let Verdict::Refused(n, p) = check_fields(t, fields, pointers.count, before) {
+    if let Verdict::Refused(n, p) = check_fields(t, fields, pointers.count) {
         return Verdict::Refused(n, p);
     }
     if let Verdict::Refused(n, p) = check_pointers(t, pointers, records.count, entry) {

@@ -1,29 +1,26 @@
 -- Laws of what the evaluator looks up in a table's lists: nodes, targets, fields, sizes and offsets.
-use Prim.Native.Nat.{ℕ, zero, suc, _+_, _*_, _-_, _≤_, _<_}
+use Prim.Native.Nat.{ℕ, _+_, _*_, _-_, _≤_, _<_}
 use mathlib.Core.Bool.{true}
-use mathlib.Core.Path.{_≡_, refl, sym, _∙_}
+use mathlib.Core.Path.{_≡_, refl, sym, ap, _∙_}
 use mathlib.Core.Logic.{⊎-elim}
 use mathlib.Core.List.{List}
 use native.Mathlib.Omega.{arith}
 use native.Mathlib.Decide.{decLt}
-use borrow.Author.Tests.{lt-leb, le-leb, lt-ltb, le-ltb, ltb-true, leb-true, eqb-true}
-use lib.Dec.{leb, ltb, eqb}
+use borrow.Author.Tests.{lt-leb, le-leb, lt-ltb, ltb-true, leb-true}
+use lib.Dec.{leb, ltb}
 use lib.ListN.{length}
-use Rattle.semantics.specs.Words.{Words, word, if_then_else_, sum-below}
+use Rattle.semantics.specs.Words.{Words, word, if_then_else_}
 use Rattle.semantics.specs.Table.{records, fields, pointers, nodes, count, item, known-type, known-target, target, points-to-record, pointed-record, field-total, first-field, field-offset, field-count, size-of, field, value, sort-of, node-kind, node-a, node-b, node-type}
 use Rattle.semantics.specs.Syntax.{step-of}
-use Rattle.semantics.specs.Check.{field-sum-fault, is-child}
+use Rattle.semantics.specs.Check.{is-child}
 use Rattle.semantics.proofs.Passed.{Types-passed, section-ok, require-passes, target-known, record-known, field-in}
 use Rattle.semantics.proofs.Tests.{and-true, or-true}
 use Rattle.semantics.proofs.Trees.{Node-ok, node-ok, is-child-true, types-known}
-use Rattle.layout.specs.Types.{words-before}
-use Rattle.layout.proofs.Laws.{sum-more}
-use Rattle.layout.proofs.Types.{first-≤}
+use Rattle.layout.specs.Types.{Record-in}
+use Rattle.layout.proofs.Types.{record-in}
+use Rattle.sizes.specs.Sizes.{Tails}
 use Rattle.lookups.specs.Lists.{part, Lists, Field-node, Known-word}
 use Rattle.steps.specs.Answers.{column}
-
-few-records : {t : Words} → Types-passed t → count t records ≤ 32
-few-records {t} ok = section-ok t 0 (ok .sections 0 (omega arith)) .limited
 
 few-fields : {t : Words} → Types-passed t → count t fields ≤ 128
 few-fields {t} ok = section-ok t 1 (ok .sections 1 (omega arith)) .limited
@@ -55,45 +52,27 @@ noted-type {t} {a = a} lists inside sort e =
 
 -- ---- records
 
--- A field's offset is the difference of the words before it and before the record's first.
-offset : (t : Words) (r f : ℕ) → words-before t (first-field t r + f) ≡ words-before t (first-field t r) + field-offset t r f
-unfolding words-before field-offset field-count sum-below
-offset t r zero =
-    let e : first-field t r + 0 ≡ first-field t r = omega arith in
-    rw e (omega arith)
-offset t r (suc f) =
-    let e : first-field t r + suc f ≡ suc (first-field t r + f) = omega arith in
-    rw e (omega (arith, offset t r f))
-
 -- Record r as the lists have it.
 record Record-at (t : Words) (l : List Words) (r : ℕ) : Type 0 where
-  few : r < 32
-  less : r + 1 < length (column l 4)
-  start : word (column l 4) r ≡ first-field t r
-  next : word (column l 4) (r + 1) ≡ first-field t r + field-total t r
-  inside : first-field t r + field-total t r ≤ count t fields
+  first : Record-in t (column l 4) r
+  less : r < length (column l 4)
   most : count t fields ≤ 128
-  room : count t fields < length (column l 5)
-  before-start : word (column l 5) (first-field t r) ≡ words-before t (first-field t r)
-  before-field : (f : ℕ) → f ≤ field-total t r → word (column l 5) (first-field t r + f) ≡ words-before t (first-field t r) + field-offset t r f
+  size : word (column l 5) r ≡ size-of t (65536 + r)
+  size-room : r < length (column l 5)
+  tails : Tails t (column l 6) r 0
+  tail-room : count t fields ≤ length (column l 6)
 
 record-at : {t : Words} {l : List Words} → Lists t l → (r : ℕ) → r < count t records → Record-at t l r
-unfolding first-field field-sum-fault
-record-at {t} h r less =
+record-at h r less =
     let ok = h .passed .types in
-    let more : first-field t (r + 1) ≡ first-field t r + field-total t r = sum-more (field-total t) r in
-    let all = eqb-true (first-field t (count t records)) (count t fields) (require-passes (eqb (first-field t (count t records)) (count t fields)) _ _ (ok .field-sum)) in
-    let inside : first-field t r + field-total t r ≤ count t fields = omega (arith, more, all, first-≤ t (r + 1) (count t records) (omega arith)) in
     record {
-      few = omega (arith, few-records ok);
+      first = record-in ok (h .firsts) r less;
       less = omega (arith, h .first-room);
-      start = h .firsts .holds r (omega arith);
-      next = h .firsts .holds (r + 1) (omega arith) ∙ more;
-      inside = inside;
       most = few-fields ok;
-      room = h .before-room;
-      before-start = h .befores .holds (first-field t r) (omega arith);
-      before-field = λ f l. h .befores .holds (first-field t r + f) (omega arith) ∙ offset t r f;
+      size = h .sized .size-is r less;
+      size-room = omega (arith, h .size-room);
+      tails = h .sized .noted r less;
+      tail-room = h .tail-room;
     }
 
 -- ---- pointer types
@@ -168,39 +147,44 @@ module _ {t : Words} {l : List Words} {n : ℕ} (h : Field-node t l n) where
     unfolding pointed-record
     record-is p s = s ∙ rw (p, type-is)
 
-  pub first-inside : {r : ℕ} → r ≡ record-of t n → (r < 32) × (r < length (column l 4))
-  first-inside e =
-      let g = record-at (h .lists) (record-of t n) (field-found h .rec) in
-      rw e (omega (arith, g .few, g .less))
+  -- The record, and what the lists have of it.
+  module _ {r : ℕ} (e : r ≡ record-of t n) where
+    at : Record-at t l r
+    at = rw e (record-at (h .lists) (record-of t n) (field-found h .rec))
 
-  pub first-is : {r x : ℕ} → r ≡ record-of t n → x ≡ word (column l 4) r → x ≡ first-field t (record-of t n)
-  first-is e p = p ∙ rw e (record-at (h .lists) (record-of t n) (field-found h .rec) .start)
+    pub record-inside : (r < 32) × (r < length (column l 4)) × (r < length (column l 5))
+    record-inside = (at .first .few, at .less, at .size-room)
 
-  module _ {f b : ℕ} (e : f ≡ first-field t (record-of t n)) (q : b ≡ part l n 2) where
-    number-is : b ≡ node-b t n
-    number-is = item-is (h .lists) (h .node) 2 (omega arith) q
+    module _ {b : ℕ} (q : b ≡ part l n 2) where
+      number-is : b ≡ node-b t n
+      number-is = item-is (h .lists) (h .node) 2 (omega arith) q
 
-    pub field-inside : (f + b < 128) × (2 * (f + b) + 1 < length (column l 3)) × (f + b < length (column l 5))
+      pub field-number : {f : ℕ} → f ≡ word (column l 4) r → (f + b < 128) × (f + b ≡ first-field t (record-of t n) + node-b t n)
+      field-number p =
+          let less : b < field-total t r = rw (e, number-is) (field-found h .less) in
+          (omega (arith, at .first .start, at .first .inside, at .most), omega (arith, at .first .start, ap (first-field t) e, number-is))
+
+  module _ {f : ℕ} (e : f ≡ first-field t (record-of t n) + node-b t n) where
+    pub field-inside : (f < 128) × (2 * f + 1 < length (column l 3)) × (f < length (column l 6))
     field-inside =
         let i = field-found h in
         let g = record-at (h .lists) (record-of t n) (i .rec) in
-        rw (e, number-is) (omega (arith, i .less, g .inside, g .most, g .room, h .lists .field-room))
+        omega (arith, i .less, g .first .inside, g .most, g .tail-room, h .lists .field-room)
 
-    pub count-is : {x : ℕ} → x ≡ word (column l 3) (2 * (f + b) + 1) → x ≡ field-count t (record-of t n) (node-b t n)
+    pub count-is : {x : ℕ} → x ≡ word (column l 3) (2 * f + 1) → x ≡ field-count t (record-of t n) (node-b t n)
     unfolding field-count
     count-is p =
         let i = field-found h in
-        p ∙ rw (e, number-is) (h .lists .field-is (first-field t (record-of t n) + node-b t n) (field-in (h .lists .passed .types) (record-of t n) (node-b t n) (i .rec) (i .less)))
+        p ∙ rw e (h .lists .field-is (first-field t (record-of t n) + node-b t n) (field-in (h .lists .passed .types) (record-of t n) (node-b t n) (i .rec) (i .less)))
 
-    -- The words before the field are those before the record's first and the field's offset.
-    pub offset-is : {x y : ℕ} → x ≡ word (column l 5) (f + b) → y ≡ word (column l 5) f → x ≡ y + field-offset t (record-of t n) (node-b t n)
-    offset-is {x} {y} p s =
+    -- The words from the field on and its offset together are the record's size.
+    pub offset-is : {r x y : ℕ} → r ≡ record-of t n → x ≡ word (column l 5) r → y ≡ word (column l 6) f → x ≡ y + field-offset t (record-of t n) (node-b t n)
+    offset-is {x = x} {y = y} q p s =
         let i = field-found h in
         let g = record-at (h .lists) (record-of t n) (i .rec) in
-        let far = g .before-field (node-b t n) (omega (arith, i .less)) in
-        let x′ : x ≡ words-before t (first-field t (record-of t n)) + field-offset t (record-of t n) (node-b t n) = p ∙ rw (e, number-is) far in
-        let y′ : y ≡ words-before t (first-field t (record-of t n)) = s ∙ rw e (g .before-start) in
-        omega arith
+        let x′ : x ≡ size-of t (65536 + record-of t n) = p ∙ rw q (g .size) in
+        let y′ : y ≡ word (column l 6) (first-field t (record-of t n) + node-b t n) = s ∙ rw e refl in
+        omega (arith, g .tails .together (node-b t n) (omega arith) (i .less))
 
 -- ---- sizes
 
@@ -221,29 +205,13 @@ module _ {t : Words} {l : List Words} {x r : ℕ} (h : Known-word known-target t
   less : r < count t records
   less = omega (arith, known-below (h .lists .passed .types) x (h .known))
 
-  pub size-first : (r < 32) × (r + 1 < length (column l 4))
-  size-first = let g = record-at (h .lists) r less in (g .few, g .less)
+  pub size-inside : (r < 32) × (r < length (column l 5))
+  size-inside = let g = record-at (h .lists) r less in (g .first .few, g .size-room)
 
-  pub size-next : {i : ℕ} → i ≡ word (column l 4) (r + 1) → (i ≤ 128) × (i < length (column l 5))
-  size-next p =
-      let g = record-at (h .lists) r less in
-      omega (arith, g .next, g .inside, g .most, g .room)
-
-  pub size-start : {j : ℕ} → j ≡ word (column l 4) r → (j ≤ 128) × (j < length (column l 5))
-  size-start q =
-      let g = record-at (h .lists) r less in
-      omega (arith, g .start, g .inside, g .most, g .room)
-
-  -- The words before the next record's fields are those before the record's and its own.
-  pub size-is : {i j v w : ℕ} → i ≡ word (column l 4) (r + 1) → j ≡ word (column l 4) r → v ≡ word (column l 5) i → w ≡ word (column l 5) j
-      → v ≡ w + size-of t x
-  unfolding size-of
-  size-is {v = v} {w = w} p q s u =
-      let g = record-at (h .lists) r less in
-      let far = g .before-field (field-total t r) (omega arith) in
-      let v′ : v ≡ words-before t (first-field t r) + field-offset t r (field-total t r) = s ∙ rw (p, g .next) far in
-      let w′ : w ≡ words-before t (first-field t r) = u ∙ rw (q, g .start) (g .before-start) in
-      rw (le-ltb x 65536 far-off, ← e) (omega arith)
+  pub size-is : {v : ℕ} → v ≡ word (column l 5) r → v ≡ size-of t x
+  size-is q =
+      let x-is : 65536 + r ≡ x = omega arith in
+      q ∙ record-at (h .lists) r less .size ∙ ap (size-of t) x-is
 
 pub size-same : {l : List Words} {x y r : ℕ} → y ≡ x → ((t : Words) → Known-word known-target t l y → r ≡ size-of t y) → (t : Words) → Known-word known-target t l x → r ≡ size-of t x
 size-same e h t w = rw e at (h t (rw e w))

@@ -1,6 +1,6 @@
 // What is looked up in the lists of a table that has passed the check: words of its nodes, types, fields, sizes and steps.
-// `l` are these lists: its nodes, their types, the targets of its pointers, its fields, the first field of each record, and the words before
-// each field.
+// `l` are these lists: its nodes, their types, the targets of its pointers, its fields, the first field of each record, the size of each
+// record, and the words of a record from each field on.
 ghost use mathlib.Core.Path.{_≡_};
 ghost use mathlib.Core.List.{map};
 ghost use Prim.Native.Nat.{_+_, _*_, _≤_, _<_, _^_};
@@ -14,15 +14,15 @@ use layout::Table;
 use layout::index;
 
 // Word i of list j of the table's lists.
-fn entry(l: &[&[u32]; 6], j: usize, i: usize) -> u32
-    requires { ⌜ (j < 6) × (i < 2 ^ 32) × (i < length (column (map (λ x. now x) (now l)) j)) ⌝ }
+fn entry(l: &[&[u32]; 7], j: usize, i: usize) -> u32
+    requires { ⌜ (j < 7) × (i < 2 ^ 32) × (i < length (column (map (λ x. now x) (now l)) j)) ⌝ }
     ensures { λ r. ⌜ r ≡ word (column (map (λ x. now x) (now (l .entry))) j) i ⌝ }
 {
     l[j][i]
 }
 
 // Word j of node n.
-pub fn item(l: &[&[u32]; 6], n: usize, j: usize) -> u32
+pub fn item(l: &[&[u32]; 7], n: usize, j: usize) -> u32
     requires { ⌜ (n < 512) × (j < 3) × (n * 3 + j < length (column (map (λ x. now x) (now l)) 0)) ⌝ }
     ensures { λ r. ⌜ r ≡ part (map (λ x. now x) (now (l .entry))) n j ⌝ }
 {
@@ -30,7 +30,7 @@ pub fn item(l: &[&[u32]; 6], n: usize, j: usize) -> u32
 }
 
 // The node or the number that word j of node n is.
-pub fn child(l: &[&[u32]; 6], n: usize, j: usize) -> usize
+pub fn child(l: &[&[u32]; 7], n: usize, j: usize) -> usize
     requires { ⌜ (n < 512) × (j < 3) × (n * 3 + j < length (column (map (λ x. now x) (now l)) 0)) ⌝ }
     ensures { λ r. ⌜ r ≡ part (map (λ x. now x) (now (l .entry))) n j ⌝ }
 {
@@ -38,7 +38,7 @@ pub fn child(l: &[&[u32]; 6], n: usize, j: usize) -> usize
 }
 
 // The type of node n, a value.
-pub fn type_of(l: &[&[u32]; 6], n: usize) -> u32
+pub fn type_of(l: &[&[u32]; 7], n: usize) -> u32
     requires { ⌜ (n < 512) × (n < length (column (map (λ x. now x) (now l)) 1)) ⌝ }
     ensures { λ r. ⌜ r ≡ word (column (map (λ x. now x) (now (l .entry))) 1) n ⌝ }
 {
@@ -46,7 +46,7 @@ pub fn type_of(l: &[&[u32]; 6], n: usize) -> u32
 }
 
 // What this pointer type, an entry, points to.
-fn target(l: &[&[u32]; 6], of: u32) -> u32
+fn target(l: &[&[u32]; 7], of: u32) -> u32
     requires { ⌜ (Known-ready known-type (map (λ x. now x) (now l)) of) × (2 ≤ of) ⌝ }
     ensures { λ r. ⌜ ((t : Words) → Known-word known-type t (map (λ x. now x) (now (l .entry))) of → r ≡ target t of) ⌝ }
 {
@@ -54,52 +54,50 @@ fn target(l: &[&[u32]; 6], of: u32) -> u32
 }
 
 // The record that the child of node n, a field, points to.
-fn record(l: &[&[u32]; 6], n: usize) -> usize
+fn record(l: &[&[u32]; 7], n: usize) -> usize
     requires { ⌜ Field-ready (map (λ x. now x) (now l)) n ⌝ }
     ensures { λ r. ⌜ ((t : Words) → Field-node t (map (λ x. now x) (now (l .entry))) n → r ≡ pointed-record t (node-type t (node-a t n))) ⌝ }
 {
     index(target(l, type_of(l, child(l, n, 1))) - Table::RECORD)
 }
 
-// That record's first field.
-fn first(l: &[&[u32]; 6], n: usize) -> usize
+// The number, among the fields of all records, of node n, a field.
+fn number(l: &[&[u32]; 7], n: usize) -> usize
     requires { ⌜ Field-ready (map (λ x. now x) (now l)) n ⌝ }
-    ensures { λ r. ⌜ ((t : Words) → Field-node t (map (λ x. now x) (now (l .entry))) n → r ≡ first-field t (pointed-record t (node-type t (node-a t n)))) ⌝ }
+    ensures { λ r. ⌜ ((t : Words) → Field-node t (map (λ x. now x) (now (l .entry))) n → r ≡ first-field t (pointed-record t (node-type t (node-a t n))) + node-b t n) ⌝ }
 {
-    index(entry(l, 4, record(l, n)))
+    index(entry(l, 4, record(l, n))) + child(l, n, 2)
 }
 
-// How many words of the record stand before node n, a field.
-pub fn offset(l: &[&[u32]; 6], n: usize) -> u32
+// How many words of the record stand before node n, a field: its size less those from the field on.
+pub fn offset(l: &[&[u32]; 7], n: usize) -> u32
     requires { ⌜ Field-ready (map (λ x. now x) (now l)) n ⌝ }
     ensures { λ r. ⌜ ((t : Words) → Field-node t (map (λ x. now x) (now (l .entry))) n → r ≡ field-offset t (pointed-record t (node-type t (node-a t n))) (node-b t n)) ⌝ }
 {
-    let f = first(l, n);
-    entry(l, 5, f + child(l, n, 2)) - entry(l, 5, f)
+    entry(l, 5, record(l, n)) - entry(l, 6, number(l, n))
 }
 
 // How many words node n, a field, has.
-pub fn count(l: &[&[u32]; 6], n: usize) -> u32
+pub fn count(l: &[&[u32]; 7], n: usize) -> u32
     requires { ⌜ Field-ready (map (λ x. now x) (now l)) n ⌝ }
     ensures { λ r. ⌜ ((t : Words) → Field-node t (map (λ x. now x) (now (l .entry))) n → r ≡ field-count t (pointed-record t (node-type t (node-a t n))) (node-b t n)) ⌝ }
 {
-    entry(l, 3, 2 * (first(l, n) + child(l, n, 2)) + 1)
+    entry(l, 3, 2 * number(l, n) + 1)
 }
 
 // The words of a record, or of a type.
-pub fn size_of(l: &[&[u32]; 6], x: u32) -> u32
+pub fn size_of(l: &[&[u32]; 7], x: u32) -> u32
     requires { ⌜ Known-ready known-target (map (λ x. now x) (now l)) x ⌝ }
     ensures { λ r. ⌜ ((t : Words) → Known-word known-target t (map (λ x. now x) (now (l .entry))) x → r ≡ size-of t x) ⌝ }
 {
     if x < Table::RECORD {
         return 1;
     }
-    let r = index(x - Table::RECORD);
-    entry(l, 5, index(entry(l, 4, r + 1))) - entry(l, 5, index(entry(l, 4, r)))
+    entry(l, 5, index(x - Table::RECORD))
 }
 
 // The words by which 1 moves a value of this type: those of the record that it points to, else one.
-pub fn step(l: &[&[u32]; 6], of: u32) -> u32
+pub fn step(l: &[&[u32]; 7], of: u32) -> u32
     requires { ⌜ Known-ready known-type (map (λ x. now x) (now l)) of ⌝ }
     ensures { λ r. ⌜ ((t : Words) → Known-word known-type t (map (λ x. now x) (now (l .entry))) of → r ≡ step-of t of) ⌝ }
 {

@@ -88,14 +88,15 @@ fn run_commands<'a>(
     t: &'a [u32],
     layout: Table,
     first: &'a [u32; 33],
-    before: &'a [u32; 129],
+    sizes: &'a [u32; 32],
+    tails: &'a [u32; 128],
     notes: &'a [u32; 512],
     unused: u32,
     values: &mut [u32],
     bases: &mut [u32],
     ends: &mut [u32],
 ) -> Answer
-    requires { ⌜ Startable (now t) layout (now first) (now before) (now notes) unused (now values) (now bases) (now ends) ⌝ }
+    requires { ⌜ Startable (now t) layout (now first) (now sizes) (now tails) (now notes) unused (now values) (now bases) (now ends) ⌝ }
     ensures { λ r. ⌜ Executed (now (t .entry)) (now (values .entry)) (now (bases .entry)) (now (ends .entry)) unused r (now (values .exit)) (now (bases .exit)) (now (ends .exit)) ⌝ }
 {
     let fields = layout.fields;
@@ -111,7 +112,8 @@ fn run_commands<'a>(
         &t[first_pointer..],
         &t[first_field..],
         &first[..],
-        &before[..],
+        &sizes[..],
+        &tails[..],
     ];
     let e = commands::execute(
         t,
@@ -131,7 +133,8 @@ fn run_checked<'a>(
     t: &'a [u32],
     layout: Table,
     first: &'a [u32; 33],
-    before: &'a [u32; 129],
+    sizes: &'a [u32; 32],
+    tails: &'a [u32; 128],
     notes: &'a [u32; 512],
     inputs: &[u32],
     registers: &[u32],
@@ -139,7 +142,7 @@ fn run_checked<'a>(
     bases: &mut [u32],
     ends: &mut [u32],
 ) -> Answer
-    requires { ⌜ (Program (now t) (now first) (now before) (now notes)) × (layout ≡ layout-specs.layout (now t)) ⌝ }
+    requires { ⌜ (Program (now t) (now first) (now sizes) (now tails) (now notes)) × (layout ≡ layout-specs.layout (now t)) ⌝ }
     ensures { λ r. ⌜ Is (call (now (t .entry)) (now (inputs .entry)) (now (registers .entry)) (now (values .entry)) (now (bases .entry)) (now (ends .entry))) r (now (values .exit)) (now (bases .exit)) (now (ends .exit)) ⌝ }
 {
     let variables = layout.variables;
@@ -155,7 +158,18 @@ fn run_checked<'a>(
         return Answer::Refused(n, p);
     }
     let unused = begin(variables.count, inputs, registers, values, bases, ends);
-    run_commands(t, layout, first, before, notes, unused, values, bases, ends)
+    run_commands(
+        t,
+        layout,
+        first,
+        sizes,
+        tails,
+        notes,
+        unused,
+        values,
+        bases,
+        ends,
+    )
 }
 
 // Whether a table passes, or the number and place of its refusal. Any words, any length.
@@ -163,9 +177,10 @@ pub fn check(t: &[u32]) -> Verdict
     ensures { λ r. ⌜ verdict-of r ≡ check (now (t .entry)) ⌝ }
 {
     let mut first = [0u32; 33];
-    let mut before = [0u32; 129];
+    let mut sizes = [0u32; 32];
+    let mut tails = [0u32; 128];
     let mut notes = [0u32; 512];
-    match table::check(t, &mut first, &mut before, &mut notes) {
+    match table::check(t, &mut first, &mut sizes, &mut tails, &mut notes) {
         Parsed::Is(_) => Verdict::Passes,
         Parsed::Refused(n, p) => Verdict::Refused(n, p),
     }
@@ -184,14 +199,16 @@ pub fn run(
     ensures safe { λ r. ⌜ Spatially-safe (now (t .entry)) (now (inputs .entry)) (now (registers .entry)) (now (values .entry)) (now (bases .entry)) (now (ends .entry)) ⌝ }
 {
     let mut first = [0u32; 33];
-    let mut before = [0u32; 129];
+    let mut sizes = [0u32; 32];
+    let mut tails = [0u32; 128];
     let mut notes = [0u32; 512];
-    match table::check(t, &mut first, &mut before, &mut notes) {
+    match table::check(t, &mut first, &mut sizes, &mut tails, &mut notes) {
         Parsed::Is(l) => run_checked(
             t,
             l,
             &first,
-            &before,
+            &sizes,
+            &tails,
             &notes,
             inputs,
             registers,

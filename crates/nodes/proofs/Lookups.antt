@@ -1,18 +1,16 @@
 -- Laws of what is looked up: targets, fields, sizes and offsets.
 use Prim.Native.Nat.{ℕ, _+_, _*_, _-_, _≤_, _<_}
 use mathlib.Core.Bool.{true, false}
-use mathlib.Core.Path.{_≡_, _∙_, ap}
+use mathlib.Core.Path.{_≡_, ap}
 use native.Mathlib.Omega.{arith}
-use borrow.Author.Tests.{lt-ltb, le-ltb, le-leb, lt-leb, ltb-true, eqb-true}
-use lib.Dec.{eqb}
+use borrow.Author.Tests.{lt-ltb, le-ltb, le-leb, lt-leb, ltb-true}
 use lib.ListN.{length}
 use Rattle.semantics.specs.Words.{Words, word}
 use Rattle.semantics.specs.Table.{entry-words, fields, count-place, count, item-place, item, entry-type, known-type, known-target, target, points-to-type, points-to-record, pointed-record, entry-below, field-total, first-field, field-type}
-use Rattle.semantics.specs.Check.{field-sum-fault, require}
-use Rattle.semantics.proofs.Passed.{Types-passed, section-ok, require-passes, record-known}
-use Rattle.layout.specs.Types.{mark-below}
-use Rattle.layout.proofs.Laws.{sum-more}
-use Rattle.layout.proofs.Types.{first-≤}
+use Rattle.semantics.specs.Check.{require}
+use Rattle.semantics.proofs.Passed.{Types-passed, section-ok, record-known}
+use Rattle.layout.specs.Types.{mark-below, Record-in}
+use Rattle.layout.proofs.Types.{record-in}
 use Rattle.nodes.specs.Nodes.{field-found}
 use Rattle.nodes.specs.Promises.{Target-at, Fields-at}
 use Rattle.nodes.specs.declared.Typed.the-variants.{Is, Refused}
@@ -85,28 +83,17 @@ mark-entry t n x h = rw (lt-ltb (entry-below t n x) n h)
 
 -- ---- records
 
--- Record r as the list has it.
+-- Record r as the list has it; its fields stand in the table.
 pub record Record-at (t first : Words) (at r : ℕ) : Type 0 where
-  pub few : r < 32
-  pub start : word first r ≡ first-field t r
-  pub next : word first (r + 1) ≡ first-field t r + field-total t r
+  pub listed : Record-in t first r
   pub inside : at + 2 * (first-field t r + field-total t r) ≤ length t
   pub most : first-field t r + field-total t r ≤ 128
 
 pub record-at : {t first : Words} {at : ℕ} → Fields-at t first at → (r : ℕ) → r < count t 0 → Record-at t first at r
-unfolding first-field field-sum-fault
-record-at {t} h r less =
+record-at h r less =
     let ok = h .types-pass in
-    let more : first-field t (r + 1) ≡ first-field t r + field-total t r = sum-more (field-total t) r in
-    let all = eqb-true (first-field t (count t 0)) (count t 1) (require-passes (eqb (first-field t (count t 0)) (count t 1)) _ _ (ok .field-sum)) in
-    let inside : first-field t r + field-total t r ≤ count t 1 = omega (arith, more, all, first-≤ t (r + 1) (count t 0) (omega arith)) in
-    record {
-      few = omega (arith, few-records ok);
-      start = h .firsts .holds r (omega arith);
-      next = h .firsts .holds (r + 1) (omega arith) ∙ more;
-      inside = omega (arith, inside, h .start, extent ok 1 (omega arith));
-      most = omega (arith, inside, few-fields ok);
-    }
+    let g = record-in ok (h .firsts) r less in
+    record { listed = g; inside = omega (arith, g .inside, h .start, extent ok 1 (omega arith)); most = omega (arith, g .inside, few-fields ok) }
 
 -- Field f of record r stands at place at.
 pub field-type-at : (t : Words) (fields r f at : ℕ) → fields ≡ count-place t 1 + 1 → at ≡ fields + 2 * (first-field t r + f) → field-type t r f ≡ word t at

@@ -1,9 +1,9 @@
 -- Request 3: a record's size, from the counts of its fields.
-use Prim.Native.Nat.{ℕ, suc, _+_, _*_, _-_, _≤_, _<_}
-use mathlib.Core.Path.{_≡_, refl, sym, ap, _∙_}
+use Prim.Native.Nat.{ℕ, suc, _+_, _-_, _≤_, _<_}
+use mathlib.Core.Path.{_≡_, sym, ap, _∙_}
 use native.Mathlib.Omega.{arith}
 use borrow.Author.Tests.{le-ltb}
-use Rattle.semantics.specs.Words.{Words, if_then_else_, sum-below}
+use Rattle.semantics.specs.Words.{Words, sum-below}
 use Rattle.semantics.specs.Table.{records, count, record-target, field-total, field-count, field-offset, size-of, words-from}
 use Rattle.semantics.proofs.Lists.{sum-below-+, sum-below-most}
 use Rattle.semantics.proofs.Passed.{Types-passed, section-ok, field-ok, fields-in, field-in}

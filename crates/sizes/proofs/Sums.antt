@@ -1,5 +1,5 @@
 -- Laws of what is noted while a record's words are added up.
-use Prim.Native.Nat.{ℕ, suc, _+_, _*_, _≤_, _<_}
+use Prim.Native.Nat.{ℕ, suc, _+_, _≤_, _<_}
 use mathlib.Core.Path.{_≡_, refl, sym, _∙_}
 use native.Mathlib.Omega.{arith}
 use native.Mathlib.Nat.{not-suc-le-zero}
@@ -7,13 +7,11 @@ use native.Mathlib.Decide.{ℕ-discrete}
 use lib.ListN.{length, set, length-set}
 use lib.Seq.{getD-set-same, getD-set-other}
 use Rattle.semantics.specs.Words.{Words, word}
-use Rattle.semantics.specs.Table.{records, fields, count, item, record-target, field-total, first-field, field-offset, field-count, size-of, words-from}
+use Rattle.semantics.specs.Table.{fields, item, record-target, field-total, first-field, field-offset, field-count, size-of, words-from}
 use Rattle.semantics.proofs.Sizes.{offset-and-rest, rest-none, rest-all, rest-more}
 use Rattle.semantics.proofs.Lists.{sum-below-≤}
-use Rattle.semantics.proofs.Passed.{Types-passed, section-ok, fields-in}
-use Rattle.layout.specs.Types.{Tabulated}
 use Rattle.layout.proofs.Laws.{sum-more}
-use Rattle.sizes.specs.Sizes.{Record-in, Tails, Added, Sized}
+use Rattle.sizes.specs.Sizes.{Tails, Added, Sized}
 
 -- Record r while its words are added up: the fields from f on are in the sum and are noted.
 pub record Adding (t : Words) (r f : ℕ) (tails₀ tails : Words) (sum : ℕ) : Type 0 where
@@ -57,17 +55,6 @@ one-added t r f left start c next less first count before =
 fields-before : (t : Words) (r n : ℕ) → r < n → first-field t r + field-total t r ≤ first-field t n
 unfolding first-field
 fields-before t r n h = omega (arith, sum-more (field-total t) r, sum-below-≤ (field-total t) (r + 1) n (omega arith))
-
--- What a table whose types pass has of each record.
-pub record-in : {t first : Words} → Types-passed t → Tabulated first (count t records) (first-field t) → (r : ℕ) → r < count t records → Record-in t first r
-unfolding first-field
-record-in {t} ok firsts r h =
-    record {
-      few = omega (arith, section-ok t 0 (ok .sections 0 (omega arith)) .limited);
-      start = firsts .holds r (omega arith);
-      next = firsts .holds (r + 1) (omega arith) ∙ sum-more (field-total t) r;
-      inside = fields-in ok r h;
-    }
 
 pub none-sized : {t sizes tails : Words} → Sized t sizes tails 0
 none-sized = record { size-is = λ r less. absurd (not-suc-le-zero less); noted = λ r less. absurd (not-suc-le-zero less) }

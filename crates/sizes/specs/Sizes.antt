@@ -3,14 +3,7 @@ use Prim.Native.Nat.{ℕ, _+_, _≤_, _<_}
 use mathlib.Core.Path.{_≡_}
 use lib.ListN.{length}
 use Rattle.semantics.specs.Words.{Words, word}
-use Rattle.semantics.specs.Table.{fields, count, record-target, field-total, first-field, field-offset, size-of}
-
--- The list has the first field of record r and that of the next; all between are of the table's.
-pub record Record-in (t first : Words) (r : ℕ) : Type 0 where
-  pub few : r < 32
-  pub start : word first r ≡ first-field t r
-  pub next : word first (r + 1) ≡ first-field t r + field-total t r
-  pub inside : first-field t r + field-total t r ≤ count t fields
+use Rattle.semantics.specs.Table.{record-target, field-total, first-field, field-offset, size-of}
 
 -- The fields of record r from field f on are noted. Request 3: "after each field the sum so far and that field's offset together are the
 -- record's size".

@@ -5,8 +5,8 @@ ghost use lib.ListN.{length};
 ghost use Rattle.semantics.specs.Table.{count, item, record-target, first-field, size-of};
 ghost use Rattle.semantics.proofs.Passed.{Types-passed};
 ghost use Rattle.layout.specs.Layout.{Stands};
-ghost use Rattle.layout.specs.Types.{Tabulated};
-ghost use Rattle.sizes.specs.Sizes.{Record-in, Added, Sized};
+ghost use Rattle.layout.specs.Types.{Tabulated, Record-in};
+ghost use Rattle.sizes.specs.Sizes.{Added, Sized};
 use layout::Section;
 use layout::index;
 

@@ -82,12 +82,12 @@ unfolding uses
 all-counted h k = record { all = λ i. omega (arith, k .more i, h .counted i) }
 
 -- A refusal promises nothing of the lists.
-pub refusal : {t first before notes : Words} {n p : ℕ} → check t ≡ refused n p → Checks t first before notes (Refused n p)
+pub refusal : {t first sizes tails notes : Words} {n p : ℕ} → check t ≡ refused n p → Checks t first sizes tails notes (Refused n p)
 refusal {t} e = record { answer = rw e; left = λ q. absurd (let z : _≡_ {A = ℕ} 0 1 = cc in omega arith) }
 
 pub parsed-layout : (t : Words) → sections t ≡ passes → parsed t ≡ layout-by t passes
 unfolding parsed
 parsed-layout t e = rw e
 
-pub passes-with : {t first before notes : Words} {r : Parsed} → check t ≡ passes → r ≡ layout-by t passes → Left t first before notes → Checks t first before notes r
+pub passes-with : {t first sizes tails notes : Words} {r : Parsed} → check t ≡ passes → r ≡ layout-by t passes → Left t first sizes tails notes → Checks t first sizes tails notes r
 passes-with e q h = record { answer = rw e q; left = λ p. h }

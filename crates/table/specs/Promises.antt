@@ -5,18 +5,14 @@ use mathlib.Core.List.{[], _∷_}
 use lib.Dec.{eqb}
 use lib.ListN.{length}
 use Rattle.semantics.specs.Words.{Words, word, sum-below}
-use Rattle.semantics.specs.Table.{records, fields, pointers, nodes, count, first-field, place, value, children, node-type}
+use Rattle.semantics.specs.Table.{records, nodes, count, first-field, place, value, children, node-type}
 use Rattle.semantics.specs.Check.{Verdict, passes, _or-else_, require, is-child, occurrences, command-place, command-value, uses, check}
 use Rattle.layout.specs.Layout.{layout-by}
-use Rattle.layout.specs.Types.{words-before, Tabulated, Marks}
+use Rattle.layout.specs.Types.{Tabulated}
 use Rattle.layout.specs.declared.Parsed.{Parsed}
+use Rattle.sizes.specs.Sizes.{Sized}
 use Rattle.nodes.specs.Nodes.{note}
 use Rattle.nodes.specs.Promises.{Noted-to}
-
--- What the nodes' check looks up: the first field of each record, and the pointer to each target.
-pub record Node-lists (t first entry : Words) : Type 0 where
-  pub firsts : Tabulated first (count t records) (first-field t)
-  pub marks : Marks t entry (count t pointers)
 
 -- No use is counted yet.
 pub record Clear (notes used : Words) : Type 0 where
@@ -56,18 +52,19 @@ pub record All-counted (t used : Words) : Type 0 where
   pub all : (i : ℕ) → word used i ≡ uses t i
 
 -- Lists of the right lengths.
-pub record Lists-ready (first before notes : Words) : Type 0 where
+pub record Lists-ready (first sizes tails notes : Words) : Type 0 where
   pub first-length : length first ≡ 33
-  pub before-length : length before ≡ 129
+  pub size-length : length sizes ≡ 32
+  pub tail-length : length tails ≡ 128
   pub notes-length : length notes ≡ 512
 
 -- What the check leaves where it passes.
-pub record Left (t first before notes : Words) : Type 0 where
+pub record Left (t first sizes tails notes : Words) : Type 0 where
   pub noted : (n : ℕ) → n < count t nodes → word notes n ≡ note t n
   pub firsts : Tabulated first (count t records) (first-field t)
-  pub befores : Tabulated before (count t fields) (words-before t)
+  pub sized : Sized t sizes tails (count t records)
 
 -- The answer of the whole check.
-pub record Checks (t first before notes : Words) (r : Parsed) : Type 0 where
+pub record Checks (t first sizes tails notes : Words) (r : Parsed) : Type 0 where
   pub answer : r ≡ layout-by t (check t)
-  pub left : check t ≡ passes → Left t first before notes
+  pub left : check t ≡ passes → Left t first sizes tails notes

@@ -7,14 +7,15 @@ ghost use Rattle.semantics.specs.Table.{nodes, count};
 ghost use Rattle.semantics.specs.Check.{each, node-fault, command-fault, use-fault};
 ghost use Rattle.semantics.proofs.Passed.{Types-passed};
 ghost use Rattle.layout.specs.Layout.{verdict-of, Stands, Laid-out};
-ghost use Rattle.layout.specs.Types.{Checked};
+ghost use Rattle.layout.specs.Types.{Checked, Looked-up};
 ghost use Rattle.nodes.specs.Promises.{Noted-to};
-ghost use Rattle.table.specs.Promises.{Node-lists, Clear, Nodes-noted, command-verdict, Commands-ready, Commands-counted, All-counted, Lists-ready, Checks};
+ghost use Rattle.table.specs.Promises.{Clear, Nodes-noted, command-verdict, Commands-ready, Commands-counted, All-counted, Lists-ready, Checks};
 use layout::Parsed;
 use layout::Section;
 use layout::Table;
 use layout::Verdict;
 use layout::index;
+use sizes::note_sizes;
 
 // 7, 5 and 8 for the first node at fault. Where all pass, each is noted, and its uses by nodes are counted.
 fn check_nodes(
@@ -25,7 +26,7 @@ fn check_nodes(
     notes: &mut [u32; 512],
     uses: &mut [u32; 512],
 ) -> Verdict
-    requires { ⌜ (Laid-out (now t) l) × (Types-passed (now t)) × (Node-lists (now t) (now first) (now entry)) × (Clear (now notes) (now uses)) ⌝ }
+    requires { ⌜ (Laid-out (now t) l) × (Types-passed (now t)) × (Looked-up (now t) (now first) (now entry)) × (Clear (now notes) (now uses)) ⌝ }
     ensures { λ r. ⌜ Checked r (each (count (now (t .entry)) nodes) (node-fault (now (t .entry)))) (Nodes-noted (now (t .entry)) (now (notes .exit)) (now (uses .exit)) (count (now (t .entry)) nodes)) ⌝ }
 {
     let records = l.records;
@@ -138,16 +139,17 @@ fn check_uses(nodes: Section, uses: &[u32; 512]) -> Verdict
     Verdict::Passes
 }
 
-// The whole check. Where it passes: the layout; the note of each node; the first field of each record and the words before each
-// field.
+// The whole check. Where it passes: the layout; the note of each node; the first field and the size of each record, and the words of its
+// record from each field on.
 pub fn check(
     t: &[u32],
     first: &mut [u32; 33],
-    before: &mut [u32; 129],
+    sizes: &mut [u32; 32],
+    tails: &mut [u32; 128],
     notes: &mut [u32; 512],
 ) -> Parsed
-    requires { ⌜ Lists-ready (now first) (now before) (now notes) ⌝ }
-    ensures { λ r. ⌜ Checks (now (t .entry)) (now (first .exit)) (now (before .exit)) (now (notes .exit)) r ⌝ }
+    requires { ⌜ Lists-ready (now first) (now sizes) (now tails) (now notes) ⌝ }
+    ensures { λ r. ⌜ Checks (now (t .entry)) (now (first .exit)) (now (sizes .exit)) (now (tails .exit)) (now (notes .exit)) r ⌝ }
 {
     let l = match Table::parse(t) {
         Parsed::Is(l) => l,
@@ -155,7 +157,7 @@ pub fn check(
     };
     let mut entry = [0u32; 98];
     let mut uses = [0u32; 512];
-    if let Verdict::Refused(n, p) = layout::check_types(t, l, first, before, &mut entry) {
+    if let Verdict::Refused(n, p) = layout::check_types(t, l, first, &mut entry) {
         return Parsed::Refused(n, p);
     }
     if let Verdict::Refused(n, p) = check_nodes(t, l, first, &entry, notes, &mut uses) {
@@ -169,5 +171,7 @@ pub fn check(
     if let Verdict::Refused(n, p) = check_uses(nodes, &uses) {
         return Parsed::Refused(n, p);
     }
+    let records = l.records;
+    note_sizes(t, l.fields, records.count, first, sizes, tails);
     Parsed::Is(l)
 }

@@ -1,33 +1,24 @@
--- `layout::check_fields` meets its contract. The loop's invariant: the fields before i pass, and the list is filled up to i.
-use Prim.Native.Nat.{_+_, _*_, _-_, _≤_}
+-- `layout::check_fields` meets its contract. The loop's invariant: the fields before i pass.
+use Prim.Native.Nat.{_-_, _≤_}
 use mathlib.Core.Path.{_≡_, refl, sym, _∙_}
 use mathlib.Core.Logic.{⊎-elim}
 use native.Mathlib.Omega.{arith}
 use borrow.Author.Tests.{ltb-true, ltb-false, not-true, not-false}
-use denote.Ref.{now}
-use lib.ListN.{length, length-set}
-use Rattle.semantics.specs.Words.{word, sum-below}
-use Rattle.semantics.specs.Table.{count}
 use Rattle.semantics.specs.Check.{passes, each, field-fault}
-use Rattle.layout.specs.Types.{words-before, Tabulated}
-use Rattle.layout.proofs.Laws.{refusal, each-more, each-refuses, each-all, tabulated-none, tabulated-more, tabulated-all}
-use Rattle.layout.proofs.Types.{field-unknown, field-none, field-over, field-passes, before-more}
+use Rattle.layout.proofs.Laws.{each-more, each-refuses, each-all}
+use Rattle.layout.proofs.Types.{field-unknown, field-none, field-over, field-passes}
 use Rattle.layout.proofs.check_fields.Statement.{statement}
 use Rattle.layout.proofs.check_fields.Tie as tie
 
 abbrev Inv-loop : tie.InvT-loop
-Inv-loop t pointers before₀ at count sum₀ i₀ before sum i = (i ≤ count) × (each i (field-fault t) ≡ passes) × (sum ≡ words-before t i) × (sum ≤ i * 4096) × (length before ≡ 129) × Tabulated before i (words-before t)
+Inv-loop t pointers at count i₀ i = (i ≤ count) × (each i (field-fault t) ≡ passes)
 
 abbrev μ-loop : tie.MeasureT-loop
-μ-loop t pointers before₀ at count sum₀ i₀ before sum i = count - i
-
-element-write-before : tie.Need-element-write-before Inv-loop μ-loop
-element-write-before c = omega arith
+μ-loop t pointers at count i₀ i = count - i
 
 loop-holds : tie.Need-loop-holds Inv-loop μ-loop
-unfolding each words-before sum-below
-loop-holds c =
-    (omega arith, refl, refl, omega arith, simp length-set (c .before .pre .3), tabulated-none (now (c .before .args .before)) (words-before _) (omega (arith, c .before .pre .3)) refl)
+unfolding each
+loop-holds c = (omega arith, refl)
 
 mul-field : tie.Need-mul-field Inv-loop μ-loop
 mul-field c = let h = c .before .before .before .pre .0 in omega arith
@@ -48,7 +39,7 @@ returns : tie.Need-returns Inv-loop μ-loop
 returns c =
     let h = c .before .before .before .before .before .before .pre .0 in
     let k = sym (not-true _ (c .if1 .taken)) ∙ c .before .known-type .ensures _ (c .before .before .before .before .before .before .pre .1) in
-    refusal (each-refuses _ _ (c .before .before .before .before .loop .inv .1) _ (omega arith) (field-unknown h _ _ refl k))
+    each-refuses _ _ (c .before .before .before .before .loop .inv .1) _ (omega arith) (field-unknown h _ _ refl k)
 
 add-words-at : tie.Need-add-words-at Inv-loop μ-loop
 add-words-at c = let h = c .before .before .before .before .before .before .pre .0 in omega arith
@@ -63,21 +54,8 @@ returns-2 : tie.Need-returns-2 Inv-loop μ-loop
 returns-2 c =
     let h = c .before .before .before .before .before .before .before .before .pre .0 in
     let k = sym (not-false _ (c .before .before .if1 .left)) ∙ c .before .before .before .known-type .ensures _ (c .before .before .before .before .before .before .before .before .pre .1) in
-    refusal
-    (each-refuses _ _ (c .before .before .before .before .before .before .loop .inv .1) _ (omega arith)
-    (⊎-elim (λ w. field-none h _ _ refl k (w .taken)) (λ w. field-over h _ _ refl k (w .0 .left) (ltb-true _ _ (w .1 .taken))) (c .if2 .came)))
-
-add-sum : tie.Need-add-sum Inv-loop μ-loop
-add-sum c = let h = c .before .before .before .before .before .before .before .before .before .pre .0 in omega (arith, ltb-false)
-
-add-before : tie.Need-add-before Inv-loop μ-loop
-add-before c = let h = c .before .before .before .before .before .before .before .before .before .pre .0 in omega arith
-
-mul-before : tie.Need-mul-before Inv-loop μ-loop
-mul-before c = let h = c .before .before .before .before .before .before .before .before .before .pre .0 in omega arith
-
-element-write-before-2 : tie.Need-element-write-before-2 Inv-loop μ-loop
-element-write-before-2 c = let h = c .before .before .before .before .before .before .before .before .before .pre .0 in omega arith
+    each-refuses _ _ (c .before .before .before .before .before .before .loop .inv .1) _ (omega arith)
+    (⊎-elim (λ w. field-none h _ _ refl k (w .taken)) (λ w. field-over h _ _ refl k (w .0 .left) (ltb-true _ _ (w .1 .taken))) (c .if2 .came))
 
 add-i : tie.Need-add-i Inv-loop μ-loop
 add-i c = omega arith
@@ -87,25 +65,12 @@ loop-less c = omega arith
 
 loop-again : tie.Need-loop-again Inv-loop μ-loop
 loop-again c =
-    let t = now (c .before .before .before .before .before .before .before .before .before .args .t) in
     let h = c .before .before .before .before .before .before .before .before .before .pre .0 in
-    let a = c .before .before .before .before .before .before .before .loop in
-    let p = c .before .before .before .before .before .before .before .before .before .args .fields .at + 2 * a .i in
-    let k = sym (not-false _ (c .before .before .before .if1 .left)) ∙ c .before .before .before .before .known-type .ensures t (c .before .before .before .before .before .before .before .before .before .pre .1) in
-    let next : a .sum + word t (p + 1) ≡ words-before t (a .i + 1) = omega (arith, before-more h (a .i) p refl) in (
-      omega arith,
-      each-more _ _ (a .inv .1) (field-passes h (a .i) p refl k (c .before .if2 .left) (ltb-false _ _ (c .if3 .left))),
-      next,
-      omega (arith, ltb-false),
-      simp length-set (a .inv .4),
-      tabulated-more (a .before) (a .i) _ (words-before t) (omega arith) next (a .inv .5),
-    )
+    let k = sym (not-false _ (c .before .before .before .if1 .left)) ∙ c .before .before .before .before .known-type .ensures _ (c .before .before .before .before .before .before .before .before .before .pre .1) in
+    (omega arith, each-more _ _ (c .before .before .before .before .before .before .before .loop .inv .1) (field-passes h _ _ refl k (c .before .if2 .left) (ltb-false _ _ (c .if3 .left))))
 
 returns-3 : tie.Need-returns-3 Inv-loop μ-loop
-returns-3 c =
-    let h = c .before .before .before .pre .0 in
-    let n : c .before .loop .i ≡ count (now (c .before .before .before .args .t)) 1 = omega arith in
-    record { verdict = each-all _ _ _ n (c .before .loop .inv .1); found = λ e. tabulated-all _ _ n (c .before .loop .inv .5) }
+returns-3 c = let h = c .before .before .before .pre .0 in each-all _ _ _ (omega arith) (c .before .loop .inv .1)
 
 pub check-fields-spec : {M : Type 1} → statement M
 check-fields-spec =
@@ -113,7 +78,6 @@ check-fields-spec =
     (tie.spec
     Inv-loop
     μ-loop
-    element-write-before
     loop-holds
     mul-field
     add-field
@@ -125,10 +89,6 @@ check-fields-spec =
     mul-words
     shared-slice-read-words
     returns-2
-    add-sum
-    add-before
-    mul-before
-    element-write-before-2
     add-i
     loop-less
     loop-again

@@ -49,32 +49,32 @@ note-first-requires c κs =
     (p .0 .records-stand, (omega (arith, sum-right (c .before)), p .1 .first-length))
 
 check-fields-requires : tie.Need-check-fields-requires
-check-fields-requires c κs = let p = c .before .before .before .before .before .before .before .before .before .before .before .before .before .before .pre in let h = p .0 .pointers-stand in (p .0 .fields-stand, h .total, h .limited, p .1 .before-length)
+check-fields-requires c κs = let p = c .before .before .before .before .before .before .before .before .before .before .before .before .before .pre in let h = p .0 .pointers-stand in (p .0 .fields-stand, h .total, h .limited)
 
 enum-known-n-2 : tie.Need-enum-known-n-2
 enum-known-n-2 c = search needs
 
 returns-3 : tie.Need-returns-3
 returns-3 c =
-    let d = c .before .before .before .before .before .before .before in
+    let d = c .before .before .before .before .before .before in
     refusal
-    (field-refused _ (records-pass (d .before .before .before)) (sum-right d) (ap verdict-of (sym (c .before .n2 .given .1)) ∙ c .before .before .before .check-fields .ensures .verdict))
+    (field-refused _ (records-pass (d .before .before .before)) (sum-right d) (ap verdict-of (sym (c .before .n2 .given .1)) ∙ c .before .before .before .check-fields .ensures))
 
 enum-told-2 : tie.Need-enum-told-2
 enum-told-2 c = search needs
 
-fields-pass : (c : tie.After-enum-told2) → passes ≡ each (count (now (c .before .before .before .before .before .before .before .before .before .before .before .before .before .before .before .before .before .args .t)) 1) (field-fault (now (c .before .before .before .before .before .before .before .before .before .before .before .before .before .before .before .before .before .args .t)))
-fields-pass c = ap verdict-of (sym (c .enum-told2 .given .1)) ∙ c .before .before .check-fields .ensures .verdict
+fields-pass : (c : tie.After-enum-told2) → passes ≡ each (count (now (c .before .before .before .before .before .before .before .before .before .before .before .before .before .before .before .before .args .t)) 1) (field-fault (now (c .before .before .before .before .before .before .before .before .before .before .before .before .before .before .before .before .args .t)))
+fields-pass c = ap verdict-of (sym (c .enum-told2 .given .1)) ∙ c .before .before .check-fields .ensures
 
 check-pointers-requires : tie.Need-check-pointers-requires
-check-pointers-requires c κs = let p = c .before .before .before .before .before .before .before .before .before .before .before .before .before .before .before .before .before .before .pre in let h = p .0 .records-stand in (p .0 .pointers-stand, h .total, h .limited, p .1 .entry-clear)
+check-pointers-requires c κs = let p = c .before .before .before .before .before .before .before .before .before .before .before .before .before .before .before .before .before .pre in let h = p .0 .records-stand in (p .0 .pointers-stand, h .total, h .limited, p .1 .entry-clear)
 
 enum-known-n-3 : tie.Need-enum-known-n-3
 enum-known-n-3 c = search needs
 
 returns-4 : tie.Need-returns-4
 returns-4 c =
-    let d = c .before .before .before .before .before .before .before .before .before .before .before in
+    let d = c .before .before .before .before .before .before .before .before .before .before in
     let e = c .before .before .before .before .before in
     refusal
     (pointer-refused _ (records-pass (d .before .before .before)) (sum-right d) (fields-pass e) (ap verdict-of (sym (c .before .n3 .given .1)) ∙ c .before .before .before .check-pointers .ensures .verdict))
@@ -82,23 +82,22 @@ returns-4 c =
 enum-told-3 : tie.Need-enum-told-3
 enum-told-3 c = search needs
 
-pointers-pass : (c : tie.After-enum-told3) → passes ≡ each (count (now (c .before .before .before .before .before .before .before .before .before .before .before .before .before .before .before .before .before .before .before .before .before .args .t)) 2) (pointer-fault (now (c .before .before .before .before .before .before .before .before .before .before .before .before .before .before .before .before .before .before .before .before .before .args .t)))
+pointers-pass : (c : tie.After-enum-told3) → passes ≡ each (count (now (c .before .before .before .before .before .before .before .before .before .before .before .before .before .before .before .before .before .before .before .before .args .t)) 2) (pointer-fault (now (c .before .before .before .before .before .before .before .before .before .before .before .before .before .before .before .before .before .before .before .before .args .t)))
 pointers-pass c = ap verdict-of (sym (c .enum-told3 .given .1)) ∙ c .before .before .check-pointers .ensures .verdict
 
 check-variables-requires : tie.Need-check-variables-requires
-check-variables-requires c κs = let p = c .before .before .before .before .before .before .before .before .before .before .before .before .before .before .before .before .before .before .before .before .before .pre .0 in let h = p .pointers-stand in (p .variables-stand, h .total, h .limited)
+check-variables-requires c κs = let p = c .before .before .before .before .before .before .before .before .before .before .before .before .before .before .before .before .before .before .before .before .pre .0 in let h = p .pointers-stand in (p .variables-stand, h .total, h .limited)
 
 returns-5 : tie.Need-returns-5
 returns-5 c =
-    let d = c .before .before .before .before .before .before .before .before .before .before .before in
+    let d = c .before .before .before .before .before .before .before .before .before .before in
     let e = c .before .before .before .before .before in
     let f = c .before in
     record {
       verdict = c .check-variables .ensures ∙ past-pointers _ (records-pass (d .before .before .before)) (sum-right d) (fields-pass e) (pointers-pass f);
       found = λ q.
           record {
-            firsts = c .before .before .before .before .before .before .before .before .before .note-first .ensures;
-            befores = c .before .before .before .before .before .before .before .check-fields .ensures .found (sym (fields-pass e));
+            firsts = c .before .before .before .before .before .before .before .before .note-first .ensures;
             marks = c .before .before .before .check-pointers .ensures .found (sym (pointers-pass f));
           };
     }

@@ -8,10 +8,10 @@ use Rattle.machine.proofs.run_commands.Tie as tie
 
 execute-requires : tie.Need-execute-requires
 execute-requires c κs =
-    let p = c .before .before .before .before .before .before .before .before .before .before .before .before .before .before .before .before .before .before .before .pre in
+    let p = c .before .before .before .before .before .before .before .before .before .before .before .before .before .before .before .before .before .before .before .before .pre in
     let k = commands-stand (p .program) (p .layout-is) in
     record {
-      lists-of = lists-are (p .program) (p .layout-is) (c .before .before .before .before .before .before .t36 .given .0) (c .before .before .before .before .before .t38 .given .0) (c .before .before .before .before .before .before .before .before .before .t24 .given .0) refl refl refl;
+      lists-of = lists-are (p .program) (p .layout-is) (c .before .before .before .before .before .before .before .t37 .given .0) (c .before .before .before .before .before .before .t39 .given .0) (c .before .before .before .before .before .t41 .given .0) (c .before .before .before .before .before .before .before .before .before .before .t25 .given .0) refl refl refl;
       first = k .first;
       all = c .before .before .before .before .narrow .ensures ∙ k .total;
       log = p .log;
@@ -38,7 +38,7 @@ run-commands-spec =
     (λ c. let p = c .before .before .before .before .before .before .before .before .before .before .before .pre in omega (arith, fields-stand (p .program) (p .layout-is) .extent))
     (λ c. let p = c .before .before .before .before .before .before .before .before .before .before .before .pre in omega (arith, fields-stand (p .program) (p .layout-is) .extent))
     (λ c. search needs)
-    (λ c κs. let p = c .before .before .before .before .before .before .before .before .before .before .before .before .before .before .pre in omega (arith, commands-stand (p .program) (p .layout-is) .limited))
+    (λ c κs. let p = c .before .before .before .before .before .before .before .before .before .before .before .before .before .before .before .pre in omega (arith, commands-stand (p .program) (p .layout-is) .limited))
     execute-requires
     (λ c κs. search needs)
     (λ c. search needs)

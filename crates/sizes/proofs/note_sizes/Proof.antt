@@ -6,8 +6,9 @@ use denote.Ref.{now}
 use lib.ListN.{length, length-set}
 use Rattle.semantics.specs.Table.{count}
 use Rattle.semantics.proofs.Sizes.{size-most}
+use Rattle.layout.proofs.Types.{record-in}
 use Rattle.sizes.specs.Sizes.{Sized}
-use Rattle.sizes.proofs.Sums.{record-in, none-sized, one-sized}
+use Rattle.sizes.proofs.Sums.{none-sized, one-sized}
 use Rattle.sizes.proofs.note_sizes.Statement.{statement}
 use Rattle.sizes.proofs.note_sizes.Tie as tie
 

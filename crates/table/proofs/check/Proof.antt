@@ -29,39 +29,39 @@ sections-pass c = parsed-passes (t1 c) _ (is c)
 laid : (c : tie.After-l) → Laid-out (t1 c) (c .l .given .0 .0)
 laid c = laid-out (t1 c) _ (is c)
 
-types-pass : (c : tie.After-enum-told) → types-fault (t1 (c .before .before .before .before .before .before .before)) ≡ passes
+types-pass : (c : tie.After-enum-told) → types-fault (t1 (c .before .before .before .before .before .before)) ≡ passes
 types-pass c = verdict-passes (c .before .before .check-types .ensures .verdict) (c .enum-told .given .1)
 
-nodes-pass : (c : tie.After-enum-told2) → all-nodes (t1 (c .before .before .before .before .before .before .before .before .before .before .before .before .before .before)) ≡ passes
+nodes-pass : (c : tie.After-enum-told2) → all-nodes (t1 (c .before .before .before .before .before .before .before .before .before .before .before .before .before)) ≡ passes
 nodes-pass c = verdict-passes (c .before .before .check-nodes .ensures .verdict) (c .enum-told2 .given .1)
 
-commands-pass : (c : tie.After-enum-told3) → all-commands (t1 (c .before .before .before .before .before .before .before .before .before .before .before .before .before .before .before .before .before .before .before .before .before)) ≡ passes
+commands-pass : (c : tie.After-enum-told3) → all-commands (t1 (c .before .before .before .before .before .before .before .before .before .before .before .before .before .before .before .before .before .before .before .before)) ≡ passes
 commands-pass c = verdict-passes (c .before .before .check-commands .ensures .verdict) (c .enum-told3 .given .1)
 
 returns : tie.Need-returns
 returns c = refusal (sections-refuse _ (parsed-refused _ (sym (c .before .before .before .parse .ensures) ∙ c .before .n .given .1)))
 
 check-types-requires : tie.Need-check-types-requires
-check-types-requires c κs = (laid (c .before .before .before .before), record { first-length = c .before .before .before .before .before .before .before .before .pre .first-length; before-length = c .before .before .before .before .before .before .before .before .pre .before-length; entry-clear = refl })
+check-types-requires c κs = (laid (c .before .before .before), record { first-length = c .before .before .before .before .before .before .before .pre .first-length; entry-clear = refl })
 
 returns-2 : tie.Need-returns-2
-returns-2 c = refusal (types-refuse _ (sections-pass (c .before .before .before .before .before .before .before .before)) (verdict-refuses (c .before .before .before .check-types .ensures .verdict) (c .before .n2 .given .1)))
+returns-2 c = refusal (types-refuse _ (sections-pass (c .before .before .before .before .before .before .before)) (verdict-refuses (c .before .before .before .check-types .ensures .verdict) (c .before .n2 .given .1)))
 
 check-nodes-requires : tie.Need-check-nodes-requires
 check-nodes-requires c κs =
     let found = c .before .before .before .before .before .before .check-types .ensures .found (types-pass (c .before .before .before .before)) in (
-      laid (c .before .before .before .before .before .before .before .before .before .before .before),
-      types-passed _ (sections-pass (c .before .before .before .before .before .before .before .before .before .before .before)) (types-pass (c .before .before .before .before)),
-      record { firsts = found .firsts; marks = found .marks },
-      record { notes-length = c .before .before .before .before .before .before .before .before .before .before .before .before .before .before .before .pre .notes-length; uses-length = refl; clear = zeros 512 },
+      laid (c .before .before .before .before .before .before .before .before .before .before),
+      types-passed _ (sections-pass (c .before .before .before .before .before .before .before .before .before .before)) (types-pass (c .before .before .before .before)),
+      found,
+      record { notes-length = c .before .before .before .before .before .before .before .before .before .before .before .before .before .before .pre .notes-length; uses-length = refl; clear = zeros 512 },
     )
 
 returns-3 : tie.Need-returns-3
-returns-3 c = refusal (nodes-refuse _ (sections-pass (c .before .before .before .before .before .before .before .before .before .before .before .before .before .before .before)) (types-pass (c .before .before .before .before .before .before .before .before)) (verdict-refuses (c .before .before .before .check-nodes .ensures .verdict) (c .before .n3 .given .1)))
+returns-3 c = refusal (nodes-refuse _ (sections-pass (c .before .before .before .before .before .before .before .before .before .before .before .before .before .before)) (types-pass (c .before .before .before .before .before .before .before .before)) (verdict-refuses (c .before .before .before .check-nodes .ensures .verdict) (c .before .n3 .given .1)))
 
 check-commands-requires : tie.Need-check-commands-requires
 check-commands-requires c κs =
-    let l = laid (c .before .before .before .before .before .before .before .before .before .before .before .before .before .before .before .before .before .before) in
+    let l = laid (c .before .before .before .before .before .before .before .before .before .before .before .before .before .before .before .before .before) in
     let h = l .nodes-stand in
     let found = c .before .before .before .before .before .before .check-nodes .ensures .found (nodes-pass (c .before .before .before .before)) in (
       l .commands-stand,
@@ -69,27 +69,37 @@ check-commands-requires c κs =
     )
 
 returns-4 : tie.Need-returns-4
-returns-4 c = refusal (commands-refuse _ (sections-pass (c .before .before .before .before .before .before .before .before .before .before .before .before .before .before .before .before .before .before .before .before .before .before)) (types-pass (c .before .before .before .before .before .before .before .before .before .before .before .before .before .before .before)) (nodes-pass (c .before .before .before .before .before .before .before .before)) (verdict-refuses (c .before .before .before .check-commands .ensures .verdict) (c .before .n4 .given .1)))
+returns-4 c = refusal (commands-refuse _ (sections-pass (c .before .before .before .before .before .before .before .before .before .before .before .before .before .before .before .before .before .before .before .before .before)) (types-pass (c .before .before .before .before .before .before .before .before .before .before .before .before .before .before .before)) (nodes-pass (c .before .before .before .before .before .before .before .before)) (verdict-refuses (c .before .before .before .check-commands .ensures .verdict) (c .before .n4 .given .1)))
 
 check-uses-requires : tie.Need-check-uses-requires
-check-uses-requires c κs = let h = laid (c .before .before .before .before .before .before .before .before .before .before .before .before .before .before .before .before .before .before .before .before .before .before) .nodes-stand in omega (arith, h .limited, h .extent, c .before .before .before .before .before .before .before .before .before .before .before .before .before .before .before .before .before .before .before .before .before .before .before .before .before .before .good .0)
+check-uses-requires c κs = let h = laid (c .before .before .before .before .before .before .before .before .before .before .before .before .before .before .before .before .before .before .before .before .before) .nodes-stand in omega (arith, h .limited, h .extent, c .before .before .before .before .before .before .before .before .before .before .before .before .before .before .before .before .before .before .before .before .before .before .before .before .before .good .0)
 
 -- What is left of the check is the check of uses.
-last : (c : tie.After-enum-told3) → check (t1 (c .before .before .before .before .before .before .before .before .before .before .before .before .before .before .before .before .before .before .before .before .before)) ≡ all-uses (t1 (c .before .before .before .before .before .before .before .before .before .before .before .before .before .before .before .before .before .before .before .before .before))
-last c = past-commands _ (sections-pass (c .before .before .before .before .before .before .before .before .before .before .before .before .before .before .before .before .before .before .before .before .before)) (types-pass (c .before .before .before .before .before .before .before .before .before .before .before .before .before .before)) (nodes-pass (c .before .before .before .before .before .before .before)) (commands-pass c)
+last : (c : tie.After-enum-told3) → check (t1 (c .before .before .before .before .before .before .before .before .before .before .before .before .before .before .before .before .before .before .before .before)) ≡ all-uses (t1 (c .before .before .before .before .before .before .before .before .before .before .before .before .before .before .before .before .before .before .before .before))
+last c = past-commands _ (sections-pass (c .before .before .before .before .before .before .before .before .before .before .before .before .before .before .before .before .before .before .before .before)) (types-pass (c .before .before .before .before .before .before .before .before .before .before .before .before .before .before)) (nodes-pass (c .before .before .before .before .before .before .before)) (commands-pass c)
 
-counted : (c : tie.After-enum-told3) → All-counted (t1 (c .before .before .before .before .before .before .before .before .before .before .before .before .before .before .before .before .before .before .before .before .before)) (c .before .before .check-commands .last .1 .1 .1 .1 .0)
+counted : (c : tie.After-enum-told3) → All-counted (t1 (c .before .before .before .before .before .before .before .before .before .before .before .before .before .before .before .before .before .before .before .before)) (c .before .before .check-commands .last .1 .1 .1 .1 .0)
 counted c = all-counted (c .before .before .before .before .before .before .before .before .before .check-nodes .ensures .found (nodes-pass (c .before .before .before .before .before .before .before))) (c .before .before .check-commands .ensures .found (commands-pass c))
 
 returns-5 : tie.Need-returns-5
-returns-5 c = refusal (last (c .before .before .before .before .before) ∙ verdict-refuses (c .before .before .before .check-uses .ensures _ (laid (c .before .before .before .before .before .before .before .before .before .before .before .before .before .before .before .before .before .before .before .before .before .before .before .before .before .before) .nodes-stand) (counted (c .before .before .before .before .before))) (c .before .n5 .given .1))
+returns-5 c = refusal (last (c .before .before .before .before .before) ∙ verdict-refuses (c .before .before .before .check-uses .ensures _ (laid (c .before .before .before .before .before .before .before .before .before .before .before .before .before .before .before .before .before .before .before .before .before .before .before .before .before) .nodes-stand) (counted (c .before .before .before .before .before))) (c .before .n5 .given .1))
+
+-- Where all parts have passed.
+passed : (c : tie.After-enum-told4) → check (t1 (c .before .before .before .before .before .before .before .before .before .before .before .before .before .before .before .before .before .before .before .before .before .before .before .before)) ≡ passes
+passed c = last (c .before .before .before .before) ∙ verdict-passes (c .before .before .check-uses .ensures _ (laid (c .before .before .before .before .before .before .before .before .before .before .before .before .before .before .before .before .before .before .before .before .before .before .before .before) .nodes-stand) (counted (c .before .before .before .before))) (c .enum-told4 .given .1)
+
+note-sizes-requires : tie.Need-note-sizes-requires
+note-sizes-requires c κs =
+    let l = laid (c .before .before .before .before .before .before .before .before .before .before .before .before .before .before .before .before .before .before .before .before .before .before .before .before .before .before .before .before) in
+    let p = c .before .before .before .before .before .before .before .before .before .before .before .before .before .before .before .before .before .before .before .before .before .before .before .before .before .before .before .before .before .before .before .before .pre in
+    let types = types-pass (c .before .before .before .before .before .before .before .before .before .before .before .before .before .before .before .before .before .before .before .before .before .before) in
+    ((l .fields-stand, types-passed _ (sections-pass (c .before .before .before .before .before .before .before .before .before .before .before .before .before .before .before .before .before .before .before .before .before .before .before .before .before .before .before .before)) types, l .records-stand .total, c .before .before .before .before .before .before .before .before .before .before .before .before .before .before .before .before .before .before .before .before .before .before .before .before .check-types .ensures .found types .firsts), (p .size-length, p .tail-length))
 
 returns-6 : tie.Need-returns-6
 returns-6 c =
-    let types = c .before .before .before .before .before .before .before .before .before .before .before .before .before .before .before .before .before .before .before .before .check-types .ensures .found (types-pass (c .before .before .before .before .before .before .before .before .before .before .before .before .before .before .before .before .before .before)) in
-    passes-with (last (c .before .before .before .before) ∙ verdict-passes (c .before .before .check-uses .ensures _ (laid (c .before .before .before .before .before .before .before .before .before .before .before .before .before .before .before .before .before .before .before .before .before .before .before .before .before) .nodes-stand) (counted (c .before .before .before .before))) (c .enum-told4 .given .1))
-    (sym (is (c .before .before .before .before .before .before .before .before .before .before .before .before .before .before .before .before .before .before .before .before .before .before .before .before .before)) ∙ parsed-layout _ (sections-pass (c .before .before .before .before .before .before .before .before .before .before .before .before .before .before .before .before .before .before .before .before .before .before .before .before .before)))
-    (record { noted = c .before .before .before .before .before .before .before .before .before .before .before .before .before .check-nodes .ensures .found (nodes-pass (c .before .before .before .before .before .before .before .before .before .before .before)) .noted-to .noted; firsts = types .firsts; befores = types .befores })
+    let types = types-pass (c .before .before .before .before .before .before .before .before .before .before .before .before .before .before .before .before .before .before .before .before .before .before .before) in
+    passes-with (passed (c .before .before .before .before .before)) (sym (is (c .before .before .before .before .before .before .before .before .before .before .before .before .before .before .before .before .before .before .before .before .before .before .before .before .before .before .before .before .before)) ∙ parsed-layout _ (sections-pass (c .before .before .before .before .before .before .before .before .before .before .before .before .before .before .before .before .before .before .before .before .before .before .before .before .before .before .before .before .before)))
+    (record { noted = c .before .before .before .before .before .before .before .before .before .before .before .before .before .before .before .before .before .before .check-nodes .ensures .found (nodes-pass (c .before .before .before .before .before .before .before .before .before .before .before .before .before .before .before .before)) .noted-to .noted; firsts = c .before .before .before .before .before .before .before .before .before .before .before .before .before .before .before .before .before .before .before .before .before .before .before .before .before .check-types .ensures .found types .firsts; sized = c .note-sizes .ensures })
 
 pub check-spec : {M : Type 1} → statement M
 check-spec =
@@ -115,4 +125,5 @@ check-spec =
     (λ c. search needs)
     returns-5
     (λ c. search needs)
+    note-sizes-requires
     returns-6)
