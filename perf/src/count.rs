@@ -2,7 +2,7 @@
 //! else the machine does.
 
 use crate::rows::Row;
-use crate::side::{Act, Costs, Side, ACTS, SIDES};
+use crate::side::{Act, Side, ACTS};
 use std::process::{Command, Stdio};
 
 /// Calls in the shorter of two runs, and how many the longer has more.
@@ -28,14 +28,10 @@ pub fn available() -> bool {
         .is_ok_and(|status| status.success())
 }
 
-pub fn measure(row: &Row, plan: &Plan) -> Result<Costs, String> {
-    let mut counts = Costs::default();
-    for side in SIDES {
-        for act in ACTS {
-            counts[side as usize][act as usize] = a_call(side, act, row, plan)?;
-        }
-    }
-    Ok(counts)
+/// Instructions a call of one side, by act.
+pub fn measure(side: Side, row: &Row, plan: &Plan) -> Result<[f64; 2], String> {
+    let [check, call] = ACTS.map(|act| a_call(side, act, row, plan));
+    Ok([check?, call?])
 }
 
 /// What the calls more cost more: the start of the program drops out. They go

@@ -5,6 +5,7 @@
 //! saves. The programs are this one, linked in several orders. It runs each
 //! as `PROGRAM time [--quick]` to take times, and itself as
 //! `perf spin SIDE ACT ROW CALLS` under callgrind to count instructions.
+//! `perf count` verifies and prints the library's instructions alone.
 
 mod count;
 mod library;
@@ -18,13 +19,13 @@ mod workload;
 
 use report::Measured;
 use rows::Row;
-use side::{repeat, Lists, ACTS, SIDES};
+use side::{repeat, Costs, Lists, Side, ACTS, PARTS, SIDES};
 use std::process::{Command, ExitCode};
 use std::time::Duration;
 use time::Times;
 
 const USAGE: &str = "usage: perf report FILE [--quick] PROGRAM... | perf time [--quick] | \
-perf spin SIDE ACT ROW CALLS";
+perf spin SIDE ACT ROW CALLS | perf count";
 
 fn main() -> ExitCode {
     let words: Vec<String> = std::env::args().skip(1).collect();
@@ -35,6 +36,7 @@ fn main() -> ExitCode {
         ["time", "--quick"] => take_times(true),
         ["time"] => take_times(false),
         ["spin", side, act, row, calls] => spin(side, act, row, calls),
+        ["count"] => count_library(),
         _ => Err(USAGE.into()),
     };
     match result {
@@ -93,7 +95,7 @@ fn measured<'r>(
     layouts: Vec<Times>,
     plan: Option<&count::Plan>,
 ) -> Result<[report::Line<'r>; 3], String> {
-    let counts = plan.map(|plan| count::measure(row, plan));
+    let counts = plan.map(|plan| both_sides(row, plan));
     let lines = Measured {
         row,
         layouts,
@@ -104,6 +106,11 @@ fn measured<'r>(
         println!("{}", report::text(line));
     }
     Ok(lines)
+}
+
+fn both_sides(row: &Row, plan: &count::Plan) -> Result<Costs, String> {
+    let [library, second] = SIDES.map(|side| count::measure(side, row, plan));
+    Ok([library?, second?])
 }
 
 /// How the numbers are got.
@@ -161,6 +168,20 @@ fn take_times(quick: bool) -> Result<(), String> {
     verify::rows(&rows)?;
     for times in time::measure(&rows, &time_plan(quick)) {
         println!("{}", times.to_line());
+    }
+    Ok(())
+}
+
+/// A line for each row and part: name, part, instructions, parted by tabs.
+fn count_library() -> Result<(), String> {
+    let plan = count_plan(false).ok_or("there is no valgrind to count with")?;
+    let rows = rows::all(false);
+    verify::rows(&rows)?;
+    for row in &rows {
+        let costs = count::measure(Side::Library, row, &plan)?;
+        for part in PARTS {
+            println!("{}\t{}\t{:.1}", row.name, part.name(), part.of_side(costs));
+        }
     }
     Ok(())
 }

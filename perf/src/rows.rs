@@ -33,14 +33,13 @@ pub struct Plan {
     routines: Box<dyn Fn() -> Vec<Routine>>,
 }
 
-const QUICK: [&str; 9] = [
+const QUICK: [&str; 8] = [
     "small",
     "middle",
     "largest",
     "deep casts",
     "deep places",
     "dereferences",
-    "fields",
     "records",
     "allocations",
 ];
@@ -60,6 +59,7 @@ pub fn named(name: &str) -> Option<Row> {
 fn plans() -> Vec<Plan> {
     let mut plans = shapes();
     plans.extend(registers());
+    plans.extend(records());
     plans.extend(memory());
     plans.extend(growth());
     plans
@@ -86,7 +86,6 @@ fn shapes() -> Vec<Plan> {
         plan("deep sums, right", 16, || vec![deep_sums_right()]),
         plan("dereferences", 16, || vec![dereferences()]),
         plan("pointer chain", 16, || vec![pointer_chain()]),
-        plan("fields", 256, || vec![fields()]),
         plan("records", 64, || vec![records()]),
         plan("allocations", 256, || vec![allocations()]),
         plan("mixed, 500 tables", 128, || mixed(500)),
@@ -105,6 +104,24 @@ fn registers() -> Vec<Plan> {
     [(1, 16, 32), (16, 16, 512), (1, 4_000, 4_096)]
         .map(plan)
         .into()
+}
+
+/// Records of few and of many fields: their offsets, and their sizes.
+fn records() -> Vec<Plan> {
+    let plan = |name: &str, fields: usize, routine: fn(usize) -> Routine| Plan {
+        group: "records",
+        name: format!("{name} {fields}"),
+        memory: 256,
+        quick: fields == 16,
+        routines: Box::new(move || vec![routine(fields)]),
+    };
+    let both = |fields| {
+        [
+            plan("fields", fields, workload::fields),
+            plan("sizes", fields, workload::sizes),
+        ]
+    };
+    [1, 16, 128].into_iter().flat_map(both).collect()
 }
 
 /// One routine of 64 nodes in ever longer lists.

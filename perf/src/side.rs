@@ -43,14 +43,18 @@ impl Part {
         }
     }
 
-    /// The library's cost and the second's. The run alone is the whole call
-    /// less the check, for both sides alike.
+    /// The library's cost and the second's.
     pub fn of(self, costs: Costs) -> [f64; 2] {
-        costs.map(|[check, call]| match self {
+        costs.map(|acts| self.of_side(acts))
+    }
+
+    /// One side's cost. The run alone is the whole call less the check.
+    pub fn of_side(self, [check, call]: [f64; 2]) -> f64 {
+        match self {
             Part::Check => check,
             Part::Run => call - check,
             Part::Call => call,
-        })
+        }
     }
 }
 

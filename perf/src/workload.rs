@@ -204,19 +204,43 @@ pub fn pointer_chain() -> Routine {
     r
 }
 
-/// A record of 128 fields, then `p->i = p->j`, 72 times.
-pub fn fields() -> Routine {
-    let mut r = Routine {
-        records: vec![vec![[INT, 1]; 128]],
+/// One record of so many fields of one int, and a variable that points to it.
+fn one_record(fields: usize) -> Routine {
+    Routine {
+        records: vec![vec![[INT, 1]; fields]],
         pointers: vec![RECORD],
         variables: vec![[entry(0), 0]],
         ..Routine::default()
-    };
+    }
+}
+
+/// That record, then `p->i = p->j`, 72 times: each field's offset is asked.
+pub fn fields(count: usize) -> Routine {
+    let mut r = one_record(count);
     r.new_record(0, entry(0), 0);
+    let number = |i: usize| (i % count) as u32;
     for i in 0..72 {
-        let place = r.field_of(0, (i * 29) % 128);
-        let from = r.field_of(0, (i * 53 + 7) % 128);
+        let place = r.field_of(0, number(i * 29));
+        let from = r.field_of(0, number(i * 53 + 7));
         let value = r.read(from);
+        r.assign(place, value);
+    }
+    r
+}
+
+/// That record, and `p = p + 1; x = sizeof(record)`, 72 times: its size is
+/// asked.
+pub fn sizes(fields: usize) -> Routine {
+    let mut r = one_record(fields);
+    r.variables.push([INT, 0]);
+    for _ in 0..72 {
+        let place = r.variable(0);
+        let pointer = r.get(0);
+        let one = r.constant(1);
+        let value = r.sum(pointer, one);
+        r.assign(place, value);
+        let place = r.variable(1);
+        let value = r.size(RECORD);
         r.assign(place, value);
     }
     r
