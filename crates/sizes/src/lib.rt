@@ -19,8 +19,8 @@ fn words_of(t: &[u32], fields: Section, field: usize) -> u32
     t[at + 2 * field + 1]
 }
 
-// Adds up the words of record r, straight from the table, last field first. The sum so far is noted of each field: with the field's offset
-// it is the record's size.
+// Adds up the words of record r in one number: straight from the table, last field first. Of each field the sum so far is noted, for the run:
+// with the field's offset it is the record's size. Nothing is read back here.
 fn add_up(t: &[u32], fields: Section, first: &[u32; 33], r: usize, tails: &mut [u32; 128]) -> u32
     requires { ⌜ (Stands (now t) 1 fields) × (Record-in (now t) (now first) r) × (size-of (now t) (record-target r) < 2 ^ 32) × (length (now tails) ≡ 128) ⌝ }
     ensures { λ sum. ⌜ Added (now (t .entry)) r (now (tails .entry)) (now (tails .exit)) sum ⌝ }
