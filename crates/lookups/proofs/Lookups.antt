@@ -148,9 +148,12 @@ module _ {t : Words} {l : List Words} {n : ℕ} (h : Field-node t l n) where
     record-is p s = s ∙ rw (p, type-is)
 
   -- The record, and what the lists have of it.
+  here : Record-at t l (record-of t n)
+  here = record-at (h .lists) (record-of t n) (field-found h .rec)
+
   module _ {r : ℕ} (e : r ≡ record-of t n) where
     at : Record-at t l r
-    at = rw e (record-at (h .lists) (record-of t n) (field-found h .rec))
+    at = rw e here
 
     pub record-inside : (r < 32) × (r < length (column l 4)) × (r < length (column l 5))
     record-inside = (at .first .few, at .less, at .size-room)
@@ -167,9 +170,7 @@ module _ {t : Words} {l : List Words} {n : ℕ} (h : Field-node t l n) where
   module _ {f : ℕ} (e : f ≡ first-field t (record-of t n) + node-b t n) where
     pub field-inside : (f < 128) × (2 * f + 1 < length (column l 3)) × (f < length (column l 6))
     field-inside =
-        let i = field-found h in
-        let g = record-at (h .lists) (record-of t n) (i .rec) in
-        omega (arith, i .less, g .first .inside, g .most, g .tail-room, h .lists .field-room)
+        omega (arith, field-found h .less, here .first .inside, here .most, here .tail-room, h .lists .field-room)
 
     pub count-is : {x : ℕ} → x ≡ word (column l 3) (2 * f + 1) → x ≡ field-count t (record-of t n) (node-b t n)
     unfolding field-count
@@ -180,11 +181,9 @@ module _ {t : Words} {l : List Words} {n : ℕ} (h : Field-node t l n) where
     -- The words from the field on and its offset together are the record's size.
     pub offset-is : {r x y : ℕ} → r ≡ record-of t n → x ≡ word (column l 5) r → y ≡ word (column l 6) f → x ≡ y + field-offset t (record-of t n) (node-b t n)
     offset-is {x = x} {y = y} q p s =
-        let i = field-found h in
-        let g = record-at (h .lists) (record-of t n) (i .rec) in
-        let x′ : x ≡ size-of t (65536 + record-of t n) = p ∙ rw q (g .size) in
+        let x′ : x ≡ size-of t (65536 + record-of t n) = p ∙ rw q (here .size) in
         let y′ : y ≡ word (column l 6) (first-field t (record-of t n) + node-b t n) = s ∙ rw e refl in
-        omega (arith, g .tails .together (node-b t n) (omega arith) (i .less))
+        omega (arith, here .tails .together (node-b t n) (omega arith) (field-found h .less))
 
 -- ---- sizes
 
