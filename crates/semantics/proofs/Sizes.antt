@@ -8,7 +8,7 @@ use Rattle.semantics.specs.Table.{records, count, record-target, field-t
 use Rattle.semantics.proofs.Lists.{sum-below-+, sum-below-most}
 use Rattle.semantics.proofs.Passed.{Types-passed, section-ok, field-ok, fields-in, field-in}
 
--- A record's size is what its last field would have for an offset if one more came after it.
+-- A record's size is the offset that one more field would have.
 size-last : (t : Words) (r : ℕ) → size-of t (record-target r) ≡ field-offset t r (field-total t r)
 unfolding size-of
 size-last t r =
