@@ -151,3 +151,10 @@ pub unused-words-are-clear : (t inputs registers values bases ends : Words)
     × (word (run t inputs registers (length values) .state .ends) w ≡ 0)
 unused-words-are-clear t inputs registers values bases ends e w h =
     begun-runs (begun t inputs registers (length values) (length bases) (length ends) e) .inv .clear w h
+
+-- U never passes the end of the memory.
+pub unused-fits : (t inputs registers values bases ends : Words)
+    → call-fault t inputs registers (length values) (length bases) (length ends) ≡ passes
+    → run t inputs registers (length values) .state .unused ≤ length values
+unused-fits t inputs registers values bases ends e =
+    begun-runs (begun t inputs registers (length values) (length bases) (length ends) e) .inv .high
