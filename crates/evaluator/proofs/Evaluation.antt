@@ -19,7 +19,7 @@ use Rattle.semantics.proofs.Steps.{Value-ok, place-good, value-good}
 use Rattle.lookups.specs.Lists.{part, Lists, Field-node, Field-ready, Known-word, Known-ready}
 use Rattle.steps.specs.Answers.{column, failed, state-of, Kept, Bounded, answers-ok, answers-failed, answers-full, Datum-answers, Location-answers, Variable-answered, Deref-answered, Field-answered, Sum-answered, Load-answered, Cast-answered, Malloc-answered}
 use Rattle.evaluator.specs.Result.{Node-ready, Reads-variable, Ready, Place-ready, Pointed-ready, Value-ready, Place-answered, Value-answered, Assigned-answered}
-use Rattle.steps.proofs.Finish.{passed-on, touched}
+use Rattle.steps.proofs.Finish.{passed-on, goes-on-good, touched}
 use Rattle.lookups.proofs.Lookups.{item-inside, type-inside, item-is, noted-type}
 use Rattle.evaluator.proofs.Nodes.{place-kind, value-kind, value-node, field-kind, size-kind, read-kind, Value-child, Place-child, offset-of, count-of, cast-keeps, constant-node, size-node, variable-node, deref-node, field-node, sum-node, read-node, address-node, cast-node, malloc-node}
 
@@ -228,14 +228,6 @@ module _ {l m : List Words} {n : ℕ} {s : Words} (h : Value-ready l m n s) wher
 
 -- ---- what a node answers, from what its children answered
 
-goes-on-good : {vars r b e u r′ b′ e′ u′ : ℕ} {m : List Words} {s₀ : State} {o : Outcome Datum} (f : Datum → State → Outcome Datum)
-    → r < failed → Datum-answers m r b e u o → Good vars (length (column m 0)) s₀ (Datum-ok vars) o
-    → ((x : Datum) (log : List Event) → x .value ≡ r → x .base ≡ b → x .end ≡ e → Inv vars (length (column m 0)) (state-of m u log) → Datum-answers m r′ b′ e′ u′ (f x (state-of m u log)))
-    → Datum-answers m r′ b′ e′ u′ (bind o f)
-goes-on-good f under (answers-ok x log p q s small) (good-ok inv later fine) k = k x log p q s inv
-goes-on-good f under (answers-failed x log h) g k = absurd (omega arith)
-goes-on-good f under (answers-full log h) g k = absurd (omega arith)
-
 -- The left operand of the sum n was worked out, v with base, end and U in s₁: what is answered for it and the right operand d, with the step z,
 -- is answered for the sum.
 record Left-done (l m : List Words) (n : ℕ) (s : Words) (d v z : ℕ) (s₁ : Words) : Type 0 where
@@ -431,7 +423,8 @@ module _ {l m : List Words} {n : ℕ} {s : Words} {k a : ℕ} (e : k ≡ part l 
         meets = λ t lists node vars log inv h.
             let nd = malloc-node t n (kind-is lists node e q) h in
             let p′ = a-is lists node p in
-            rw (nd .1, ← p′) (answer .meets _ _ m _ (sym hl) (child .meets t lists (omega (arith, nd .0 .less, p′)) vars log inv (rw (← p′) at (nd .0 .tree))));
+            let tree = rw (← p′) at (nd .0 .tree) in
+            rw (nd .1, ← p′) (answer .meets vars _ _ m _ _ (sym hl) (child .meets t lists (omega (arith, nd .0 .less, p′)) vars log inv tree) (value-good tree _ inv));
       }
 
   -- The number of words is a constant: no bounds are set for it.
@@ -445,8 +438,9 @@ module _ {l m : List Words} {n : ℕ} {s : Words} {k a : ℕ} (e : k ≡ part l 
             let nd = malloc-node t n (kind-is lists node e q) h in
             let p′ = a-is lists node p in
             let inside : a < count t nodes = omega (arith, nd .0 .less, p′) in
-            rw (nd .1, ← p′, constant-node t a (kind-is lists inside f z), ← a-is lists inside x)
-            (answer .meets 0 0 m _ (sym hl) (answers-ok (unbounded i) log (sym hv) refl refl small));
+            let c = constant-node t a (kind-is lists inside f z) in
+            rw (nd .1, ← p′, c, ← a-is lists inside x)
+            (answer .meets vars 0 0 m _ _ (sym hl) (answers-ok (unbounded i) log (sym hv) refl refl small) (rw (c, ← a-is lists inside x) at (value-good (rw (← p′) at (nd .0 .tree)) _ inv)));
       }
 
   -- ---- a command's place

@@ -12,7 +12,7 @@ use Rattle.semantics.specs.Check.{Verdict, passes, refused, _or-else_, check, a
 use Rattle.semantics.specs.Rules.{State}
 use Rattle.semantics.specs.Run.{cleared, begin, run, call}
 use Rattle.semantics.proofs.Passed.{Passed, passed, section-ok, section-end}
-use Rattle.semantics.proofs.Safety.{Begun, begun, begin-inv}
+use Rattle.semantics.proofs.Safety.{Begun, begun, cleared-inv, begin-inv}
 use Rattle.lookups.specs.Lists.{Lists}
 use Rattle.steps.specs.Answers.{state-of}
 use Rattle.layout.specs.Layout.{verdict-of, section-of, layout, layout-by, Stands}
@@ -95,6 +95,12 @@ module _ {vars : ℕ} {inputs registers vs bs es v₀ : Words} (x : Can-begin va
     values-length : length v₁ ≡ length vs
     values-length = ap length hv₁ ∙ length-sets v₀ 1 inputs ∙ cleared-length vs hv₀
 
+    cleared-memory : (t : Words) → vars ≡ count t variables → cleared t inputs (length vs) ≡ memory v₁ b₁ e₁ u
+    unfolding cleared
+    cleared-memory t total =
+        let e : u ≡ 1 + count t variables = omega arith in
+        rw (hv₁, hv₀, hb, he, ← (x .begun .lists .same-bases), ← (x .begun .lists .same-ends), e)
+
     pub registers-fit : All-fit registers u v₁ b₁ e₁
     registers-fit =
         let b = x .begun in
@@ -102,17 +108,9 @@ module _ {vars : ℕ} {inputs registers vs bs es v₀ : Words} (x : Can-begin va
           table = x .table;
           list = rw values-length (b .blocks);
           first = omega (arith, x .total);
-          room = omega (arith, x .total, values-length, b .lists .room);
+          inv = rw values-length (rw (cleared-memory (x .table) (x .total)) at (cleared-inv (b .lists)));
           most = omega (arith, values-length, b .lists .most);
-          bases-length = omega (arith, cleared-length bs hb, values-length, b .lists .same-bases);
-          ends-length = omega (arith, cleared-length es he, values-length, b .lists .same-ends);
         }
-
-    cleared-memory : (t : Words) → vars ≡ count t variables → cleared t inputs (length vs) ≡ memory v₁ b₁ e₁ u
-    unfolding cleared
-    cleared-memory t total =
-        let e : u ≡ 1 + count t variables = omega arith in
-        rw (hv₁, hv₀, hb, he, ← (x .begun .lists .same-bases), ← (x .begun .lists .same-ends), e)
 
     pub has-begun : {u′ : ℕ} {vs′ bs′ es′ : Words} → Registers-set registers (register-count registers) v₁ b₁ e₁ u vs′ bs′ es′ u′ → Has-begun vars inputs registers vs vs′ bs′ es′ u′
     unfolding begin

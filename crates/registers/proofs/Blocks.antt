@@ -1,5 +1,5 @@
 -- The memory that registers leave, register by register.
-use Prim.Native.Nat.{ℕ, zero, suc, _+_, _<_}
+use Prim.Native.Nat.{ℕ, zero, suc, _+_, _≤_, _<_}
 use mathlib.Core.Path.{_≡_, refl, _∙_}
 use native.Mathlib.Omega.{arith}
 use native.Mathlib.Numerals.{add-one}
@@ -9,7 +9,8 @@ use Rattle.semantics.specs.Words.{Words, word, sum-below}
 use Rattle.semantics.specs.Registers.{register-count, register-place, register-length, register-start}
 use Rattle.semantics.specs.Rules.{State}
 use Rattle.semantics.specs.Run.{with-register, registers-below}
-use Rattle.semantics.proofs.Registers.{register-inside, registers-unused}
+use Rattle.semantics.proofs.Lists.{zeroed-clear}
+use Rattle.semantics.proofs.Registers.{register-inside, registers-unused, registers-inv}
 use Rattle.registers.specs.Blocks.{memory, Holds, Register-set, Registers-set, Fits, All-fit}
 
 -- ---- one register
@@ -18,14 +19,16 @@ module _ {l : Words} {p u w : ℕ} {vs bs es : Words} (named : w ≡ word l p) w
   pub no-words : word l (p + 1) ≡ 0 → Register-set l p vs bs es u (set vs (1 + w) 0) (set bs (1 + w) 0) (set es (1 + w) 0) u
   no-words none = record { holds = rw (named, none) (record { values = refl; bases = refl; ends = refl; unused = refl }) }
 
-  pub some-words : {a k : ℕ} {vs₁ : Words} → (word l (p + 1) ≡ 0 → ⊥) → vs₁ ≡ sets vs a (take k (drop (p + 2) l)) → a ≡ u → k ≡ word l (p + 1)
+  pub some-words : {a k : ℕ} {vs₁ : Words} → ((w : ℕ) → u ≤ w → (word bs w ≡ 0) × (word es w ≡ 0)) → (word l (p + 1) ≡ 0 → ⊥) → vs₁ ≡ sets vs a (take k (drop (p + 2) l)) → a ≡ u → k ≡ word l (p + 1)
       → Register-set l p vs bs es u (set vs₁ (1 + w) u) (set bs (1 + w) u) (set es (1 + w) (u + word l (p + 1))) (u + word l (p + 1))
-  some-words some h ea ek = record { holds = rw (named, h, ea, ek) (go (word l (p + 1)) some) }
+  some-words clear some h ea ek = record { holds = rw (named, h, ea, ek) (go (word l (p + 1)) some) }
     where
       go : (n : ℕ) → (n ≡ 0 → ⊥)
           → Holds (with-register (word l p) n (take n (drop (p + 2) l)) (memory vs bs es u)) (set (sets vs u (take n (drop (p + 2) l))) (1 + word l p) u) (set bs (1 + word l p) u) (set es (1 + word l p) (u + n)) (u + n)
       go zero q = absurd (q refl)
-      go (suc n) q = record { values = refl; bases = refl; ends = refl; unused = refl }
+      go (suc n) q =
+          rw (zeroed-clear bs u (suc n) (λ w k. clear w k .0), zeroed-clear es u (suc n) (λ w k. clear w k .1))
+          (record { values = refl; bases = refl; ends = refl; unused = refl })
 
 -- A register does the same to a state as to its lists and first unused word.
 same-register : (s : State) {vs bs es : Words} {u : ℕ} (v n : ℕ) (ws : Words) → Holds s vs bs es u
@@ -60,9 +63,11 @@ module _ {l vs₀ bs₀ es₀ vs bs es : Words} {i first u : ℕ} (before : Regi
       rw at
       (record {
         inside = register-inside (x .list .extent) i less;
-        named = omega (arith, x .list .named i less, x .first, x .room);
+        named = omega (arith, x .list .named i less, x .inv .low, x .inv .high, x .first);
         room = omega (arith, before .holds .unused, end, x .list .room i less, x .first);
         most = omega (arith, x .most);
-        bases-length = omega (arith, x .bases-length);
-        ends-length = omega (arith, x .ends-length);
+        bases-length = omega (arith, x .inv .bases-length);
+        ends-length = omega (arith, x .inv .ends-length);
+        clear = rw (before .holds .bases, before .holds .ends, before .holds .unused)
+            (λ w h. let k = registers-inv (x .list) (x .first) (x .inv) i (omega arith) .clear w h in (k .1, k .2));
       })

@@ -7,6 +7,7 @@ use Rattle.semantics.specs.Words.{Words, word}
 use Rattle.semantics.specs.Table.{variables, count}
 use Rattle.semantics.specs.Rules.{State}
 use Rattle.semantics.specs.Run.{with-register, registers-below}
+use Rattle.semantics.proofs.Invariant.{Inv}
 use Rattle.semantics.proofs.Registers.{Listed}
 
 -- Lists and a first unused word as a state. What registers do to them does not depend on the log.
@@ -36,13 +37,14 @@ pub record Fits (l : Words) (p u : ℕ) (vs bs es : Words) : Type 0 where
   pub most : length vs ≤ 65536
   pub bases-length : length bs ≡ length vs
   pub ends-length : length es ≡ length vs
+  -- No word has bounds from there on, so none has to be cleared.
+  pub clear : (w : ℕ) → u ≤ w → (word bs w ≡ 0) × (word es w ≡ 0)
 
--- All registers of a list that is not refused fit from word u on, which is the first after the variables of some table.
+-- All registers of a list that is not refused fit from word u on, the first after the variables of some table, in memory that a run of it can
+-- have.
 pub record All-fit (l : Words) (u : ℕ) (vs bs es : Words) : Type 0 where
   pub table : Words
   pub list : Listed table l (length vs)
   pub first : u ≡ 1 + count table variables
-  pub room : u ≤ length vs
+  pub inv : Inv (count table variables) (length vs) (memory vs bs es u)
   pub most : length vs ≤ 65536
-  pub bases-length : length bs ≡ length vs
-  pub ends-length : length es ≡ length vs

@@ -6,7 +6,9 @@ use native.Mathlib.Omega.{arith}
 use lib.ListN.{length}
 use Rattle.semantics.specs.Words.{word}
 use Rattle.semantics.specs.Rules.{Datum, Access, Location, Event, allocated, Shortfall, State, Outcome, ok, fails, no-room, bind}
-use Rattle.semantics.specs.Safety.{Region, variable, block, Held, Permitted, by-name, by-pointer, Allowed, Sound, absent, held, Unwritten, Same-word}
+use Rattle.semantics.specs.Safety.{Region, variable, block, Held, Permitted, by-name, by-pointer, Allowed, Sound, absent, held}
+use Rattle.semantics.specs.Log.{Unwritten, Same-word}
+use Rattle.semantics.proofs.Blocks.{Stacked, region-used}
 
 pub record Inv (vars len : ℕ) (s : State) : Type 0 where
   pub values-length : length (s .values) ≡ len
@@ -14,7 +16,7 @@ pub record Inv (vars len : ℕ) (s : State) : Type 0 where
   pub ends-length : length (s .ends) ≡ len
   pub low : vars < s .unused
   pub high : s .unused ≤ len
-  pub blocks : (a n : ℕ) → List·Memᴰ (allocated a n) (s .log) → (vars < a) × (a + n ≤ s .unused)
+  pub blocks : Stacked vars (s .log) (s .unused)
   pub sound : (w : ℕ) → Sound vars (s .log) (word (s .bases) w) (word (s .ends) w)
   pub allowed : Allowed vars (s .log)
   pub clear : (w : ℕ) → s .unused ≤ w → (word (s .values) w ≡ 0) × (word (s .bases) w ≡ 0) × (word (s .ends) w ≡ 0)
@@ -39,14 +41,10 @@ module _ {vars : ℕ} {l m : List Event} (more : Within l m) where
   permitted-later (by-name h e) = by-name h e
   permitted-later (by-pointer f u h) = by-pointer f u (held-later h)
 
--- The words of a variable or of a block that was obtained are in use.
-pub region-used : {vars len s t : ℕ} {st : State} → Inv vars len st → Region vars (st .log) s t → (0 < s) × (t ≤ st .unused)
-region-used inv (variable i h) = omega arith
-region-used inv (block s n h) = omega (arith, inv .blocks s n h)
-
+-- A word that may be touched is in use.
 pub permitted-used : {vars len w : ℕ} {st : State} {a : Access} → Inv vars len st → Permitted vars (st .log) w a → (0 < w) × (w < st .unused)
-permitted-used inv (by-name h e) = omega arith
-permitted-used inv (by-pointer f u h) = omega (arith, region-used inv (h .region))
+permitted-used inv (by-name h e) = omega (arith, inv .low)
+permitted-used inv (by-pointer f u h) = omega (arith, region-used (inv .blocks) (h .region))
 
 -- From one state to a later one: no event is lost, and a word that no event writes keeps its value, base and end.
 pub record Later (s s′ : State) : Type 0 where

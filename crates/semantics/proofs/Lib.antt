@@ -4,6 +4,7 @@ pub mod Tests
 pub mod Lists
 pub mod Passed
 pub mod Sizes
+pub mod Blocks
 pub mod Invariant
 pub mod Steps
 pub mod Registers

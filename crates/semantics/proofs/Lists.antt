@@ -1,13 +1,13 @@
 -- Laws of the definitions of specs/Words.antt.
 use Prim.Native.Nat.{ℕ, zero, suc, _+_, _*_, _≤_, _<_}
-use mathlib.Core.Path.{_≡_, refl, _∙_}
+use mathlib.Core.Path.{_≡_, refl, ap, _∙_}
 use mathlib.Core.List.{List, [], _∷_, _++_}
 use native.Mathlib.Omega.{arith}
 use native.Mathlib.Nat.{not-suc-le-zero}
 use native.Mathlib.Decide.{ℕ-discrete}
-use lib.ListN.{length, getD, length-append, List·getD-append}
-use lib.Seq.{getD-at}
-use Rattle.semantics.specs.Words.{sum-below, grow}
+use lib.ListN.{length, getD, replicate, set, length-append, List·getD-append}
+use lib.Seq.{getD-at, set-getD, sets}
+use Rattle.semantics.specs.Words.{Words, word, zeroed, sum-below, grow}
 
 module _ {A : Type 0} (f : ℕ → List A → A) where
   pub length-grow : (n : ℕ) → length (grow f n) ≡ n
@@ -59,3 +59,11 @@ pub sum-below-most : (f : ℕ → ℕ) (c n : ℕ) → ((i : ℕ) → i < n → 
 unfolding sum-below
 sum-below-most f c zero h = omega arith
 sum-below-most f c (suc n) h = omega (arith, sum-below-most f c n (λ i less. h i (omega arith)), h n (omega arith))
+
+-- Clearing clear words changes nothing.
+pub zeroed-clear : (l : Words) (from n : ℕ) → ((w : ℕ) → from ≤ w → word l w ≡ 0) → zeroed l from n ≡ l
+unfolding zeroed
+zeroed-clear l from zero h = refl
+zeroed-clear l from (suc n) h =
+    let same : set l from 0 ≡ l = rw (h from (omega arith)) at (set-getD l from 0) in
+    ap (λ k. sets k (suc from) (replicate n 0)) same ∙ zeroed-clear l (suc from) n (λ w k. h w (omega arith))

@@ -1,13 +1,13 @@
 -- What a register list that isn't refused tells, and that its registers keep the invariant.
 use Prim.Native.Nat.{ℕ, zero, suc, _+_, _≤_, _<_}
-use mathlib.Core.Path.{_≡_, refl, _∙_}
+use mathlib.Core.Path.{_≡_, refl, sym, ap, _∙_}
 use mathlib.Core.List.{[], _∷_}
 use native.Mathlib.Omega.{arith}
 use borrow.Author.Tests.{ltb-true, leb-true}
 use lib.Dec.{leb}
 use lib.ListN.{length, take, drop, set}
 use lib.Seq.{sets, length-sets, getD-set-other}
-use Rattle.semantics.specs.Words.{Words, word, sum-below}
+use Rattle.semantics.specs.Words.{Words, word, zeroed, sum-below}
 use Rattle.semantics.specs.Table.{variables, count, is-pointer, item}
 use Rattle.semantics.specs.Registers.{register-count, register-place, register-variable, register-length, register-words, naming-below, register-start}
 use Rattle.semantics.specs.Check.{passes, require, each, extent-fault, names-pointer, name-fault, room-fault, registers-fault}
@@ -15,7 +15,7 @@ use Rattle.semantics.specs.Rules.{unbounded, block-pointer, State}
 use Rattle.semantics.specs.Run.{with-register, registers-below}
 use Rattle.semantics.specs.Safety.{absent, held}
 use Rattle.semantics.proofs.Tests.{and-true}
-use Rattle.semantics.proofs.Lists.{rises}
+use Rattle.semantics.proofs.Lists.{rises, zeroed-clear}
 use Rattle.semantics.proofs.Passed.{or-else-passes, require-passes, each-passes}
 use Rattle.semantics.proofs.Invariant.{Inv}
 use Rattle.semantics.proofs.Steps.{block-inv, block-held, values-inv, pointer-inv}
@@ -84,8 +84,10 @@ register-inv : {vars len : ℕ} {s : State} (v n : ℕ) (ws : Words) → v < var
     → Inv vars len (with-register v n ws s)
 register-inv v zero ws known fits room inv = pointer-inv (1 + v) (unbounded 0) (omega (arith, inv .low)) inv (record { sound = absent refl refl })
 register-inv {s = s} v (suc n) ws known fits room inv =
+    let same : zeroed (s .values) (s .unused) (suc n) ≡ s .values = zeroed-clear (s .values) (s .unused) (suc n) (λ w h. inv .clear w h .0) in
     pointer-inv (1 + v) (block-pointer (s .unused) (suc n)) (omega (arith, inv .low))
-    (values-inv (sets (s .values) (s .unused) ws) (length-sets (s .values) (s .unused) ws) (λ w h. sets-other (s .values) (s .unused) ws w (omega arith)) (block-inv (suc n) inv room))
+    (values-inv (sets (s .values) (s .unused) ws) (length-sets (s .values) (s .unused) ws ∙ ap length (sym same))
+    (λ w h. sets-other (s .values) (s .unused) ws w (omega arith) ∙ ap (λ l. word l w) (sym same)) (block-inv (suc n) (omega arith) inv room))
     (record { sound = held (block-held (suc n) s (omega arith)) })
 
 register-unused : (v n : ℕ) (ws : Words) (s : State) → with-register v n ws s .unused ≡ s .unused + n

@@ -2,7 +2,6 @@
 use Prim.Native.Nat.{ℕ, zero, suc, _≤_, _<_}
 use mathlib.Core.Bool.{_&&_}
 use mathlib.Core.Path.{_≡_, refl, _∙_}
-use mathlib.Core.List.{List·Memᴰ·not-nil}
 use native.Mathlib.Omega.{arith}
 use borrow.Author.Tests.{ltb-true, leb-true, eqb-true}
 use lib.Dec.{leb, ltb, eqb}
@@ -14,9 +13,11 @@ use Rattle.semantics.specs.Registers.{register-count}
 use Rattle.semantics.specs.Check.{passes, require, check, lengths-fit, arguments-fault, call-fault}
 use Rattle.semantics.specs.Rules.{State, Outcome}
 use Rattle.semantics.specs.Run.{cleared, begin, command, Ending, done, abort, out-of-memory, stuck, Run, ended, after-command, then-command, commands-below, run}
-use Rattle.semantics.specs.Safety.{none, absent, Spatially-safe, Writes-logged}
+use Rattle.semantics.specs.Safety.{absent, Spatially-safe}
+use Rattle.semantics.specs.Log.{Unwritten, Same-word, Blocks-apart}
 use Rattle.semantics.proofs.Tests.{and-true}
 use Rattle.semantics.proofs.Passed.{or-else-passes, require-passes, Passed, passed}
+use Rattle.semantics.proofs.Blocks.{none, none-allowed, blocks-apart}
 use Rattle.semantics.proofs.Invariant.{Inv, Later, now, later-trans, Good, good-ok, good-fails, good-no-room}
 use Rattle.semantics.proofs.Steps.{Any, assign-good}
 use Rattle.semantics.proofs.Registers.{Listed, listed, sets-other, registers-inv}
@@ -67,7 +68,7 @@ word-of-zeros zero w = refl
 word-of-zeros (suc n) zero = refl
 word-of-zeros (suc n) (suc w) = word-of-zeros n w
 
-cleared-inv : {t inputs : Words} {len bases ends : ℕ} → Lent t inputs len bases ends → Inv (count t variables) len (cleared t inputs len)
+pub cleared-inv : {t inputs : Words} {len bases ends : ℕ} → Lent t inputs len bases ends → Inv (count t variables) len (cleared t inputs len)
 unfolding cleared
 cleared-inv {t} {inputs} {len} b =
     record {
@@ -76,9 +77,9 @@ cleared-inv {t} {inputs} {len} b =
       ends-length = length-replicate len 0;
       low = omega arith;
       high = omega (arith, b .room);
-      blocks = λ a n h. absurd (List·Memᴰ·not-nil h);
+      blocks = none;
       sound = λ w. absent (word-of-zeros len w) (word-of-zeros len w);
-      allowed = none;
+      allowed = none-allowed;
       clear = λ w h. (
         sets-other (replicate len 0) 1 inputs w (omega (arith, b .inputs-length)) ∙ word-of-zeros len w,
         word-of-zeros len w,
@@ -137,10 +138,14 @@ spatial-safety t inputs registers values bases ends e =
       lengths = (r .inv .values-length, r .inv .bases-length, r .inv .ends-length);
     }
 
--- The log has every word that the run wrote.
-pub writes-are-logged : (t inputs registers values bases ends : Words) → Writes-logged t inputs registers values bases ends
-writes-are-logged t inputs registers values bases ends e w h =
-    begun-runs (begun t inputs registers (length values) (length bases) (length ends) e) .past .kept w h
+-- The log has every word that the run wrote, and its blocks lie apart.
+pub writes-are-logged : {t inputs registers : Words} {len bases ends : ℕ} → Begun t inputs registers len bases ends
+    → (w : ℕ) → Unwritten w (run t inputs registers len .state .log) → Same-word w (begin t inputs registers len) (run t inputs registers len .state)
+writes-are-logged b w h = begun-runs b .past .kept w h
+
+pub blocks-are-apart : {t inputs registers : Words} {len bases ends : ℕ} → Begun t inputs registers len bases ends
+    → Blocks-apart (count t variables) len (run t inputs registers len .state .log)
+blocks-are-apart b = blocks-apart (begun-runs b .inv .blocks) (begun-runs b .inv .high)
 
 -- "The new words are clear": at every ending of a begun run, so are the words from U on.
 pub unused-words-are-clear : (t inputs registers values bases ends : Words)

@@ -2,8 +2,7 @@
 use Prim.Native.Nat.{ℕ, _+_, _≤_, _<_}
 use mathlib.Core.Bool.{Bool, true, false}
 use mathlib.Core.Path.{_≡_, refl, sym, ap, _∙_}
-use mathlib.Core.Logic.{⊎-elim}
-use mathlib.Core.List.{List, _∷_, List·Memᴰ·head, List·Memᴰ·tail, List·Memᴰ·cases-cons}
+use mathlib.Core.List.{List, _∷_, List·Memᴰ·head, List·Memᴰ·tail}
 use native.Mathlib.Omega.{arith}
 use native.Mathlib.Decide.{ℕ-discrete}
 use borrow.Author.Tests.{lt-ltb, leb-true, eqb-false}
@@ -13,8 +12,11 @@ use lib.Seq.{getD-set-same, getD-set-other}
 use Rattle.semantics.specs.Words.{Words, word, if_then_else_}
 use Rattle.semantics.specs.Syntax.{Place, Variable, Deref, Field, Value, Number, Sum, Read, Address, Cast, Malloc}
 use Rattle.semantics.specs.Rules.{Datum, unbounded, block-pointer, Access, Location, Event, loaded, stored, allocated, State, noted, with-values, ok, fails, no-room, in-bounds, checked, deref-step, field-step, touchable, contents, read-step, cast-step, with-block, malloc-step, place-at, value-at, with-datum, assign-step, assign}
-use Rattle.semantics.specs.Safety.{variable, block, Held, Permitted, by-name, by-pointer, Allowed, load, store, alloc, Sound, absent, held, Unwritten, Same-word}
+use Rattle.semantics.specs.Safety.{variable, block, Held, Permitted, by-name, by-pointer, Allowed, Sound, absent, held}
+use Rattle.semantics.specs.Log.{Unwritten, Same-word}
 use Rattle.semantics.proofs.Tests.{in-bounds-true, and-both}
+use Rattle.semantics.proofs.Lists.{zeroed-clear}
+use Rattle.semantics.proofs.Blocks.{Stacked, load, store, alloc, load-allowed, store-allowed, alloc-allowed}
 use Rattle.semantics.proofs.Invariant.{Inv, Within, Later, now, sound-later, permitted-used, Datum-ok, Location-ok, location-later, Good, good-ok, good-fails, good-no-room, bind-good}
 
 touchable-true : {vars len w : ℕ} {s : State} {a : Access} → Inv vars len s → Permitted vars (s .log) w a → touchable s w ≡ true
@@ -31,45 +33,43 @@ tail e x h = List·Memᴰ·tail h
 noted-later : {s : State} (e : Event) → Later s (noted e s)
 noted-later e = record { more = tail e; kept = λ w h. record { value = refl; base = refl; end = refl } }
 
-no-block : {vars len : ℕ} {s : State} (e : Event) → Inv vars len s → ((a n : ℕ) → allocated a n ≡ e → ⊥) → Allowed vars (e ∷ s .log) → Inv vars len (noted e s)
-no-block e inv other allowed =
+no-block : {vars len : ℕ} {s : State} (e : Event) → Inv vars len s → Stacked vars (e ∷ s .log) (s .unused) → Allowed vars (e ∷ s .log) → Inv vars len (noted e s)
+no-block e inv stacked allowed =
     record {
       values-length = inv .values-length;
       bases-length = inv .bases-length;
       ends-length = inv .ends-length;
       low = inv .low;
       high = inv .high;
-      blocks = λ a n h. ⊎-elim (λ q. absurd (other a n q)) (λ m. inv .blocks a n m) (List·Memᴰ·cases-cons h);
+      blocks = stacked;
       sound = λ w. sound-later (tail e) (inv .sound w);
       allowed = allowed;
       clear = inv .clear;
     }
 
-not-loaded : {w : ℕ} {x : Access} (a n : ℕ) → allocated a n ≡ loaded w x → ⊥
-not-loaded a n q = let z : _≡_ {A = ℕ} 0 1 = cc in omega arith
+-- The state after an allocation, but with every word as it was.
+abbrev raised : ℕ → State → State
+raised n s = record { values = s .values; bases = s .bases; ends = s .ends; unused = with-block n s .unused; log = with-block n s .log }
 
-not-stored : {w : ℕ} {x : Access} (a n : ℕ) → allocated a n ≡ stored w x → ⊥
-not-stored a n q = let z : _≡_ {A = ℕ} 0 1 = cc in omega arith
+-- The words from U on are clear already. So a program need not clear them again when they are obtained.
+pub block-clear : {vars len : ℕ} {s : State} (n : ℕ) → Inv vars len s → with-block n s ≡ raised n s
+block-clear {s = s} n inv =
+    rw (zeroed-clear (s .values) (s .unused) n (λ w h. inv .clear w h .0), zeroed-clear (s .bases) (s .unused) n (λ w h. inv .clear w h .1), zeroed-clear (s .ends) (s .unused) n (λ w h. inv .clear w h .2))
 
-pub block-inv : {vars len : ℕ} {s : State} (n : ℕ) → Inv vars len s → s .unused + n ≤ len → Inv vars len (with-block n s)
-block-inv {vars} {len} {s} n inv fits =
-    record {
+pub block-inv : {vars len : ℕ} {s : State} (n : ℕ) → 0 < n → Inv vars len s → s .unused + n ≤ len → Inv vars len (with-block n s)
+block-inv {vars} {len} {s} n some inv fits =
+    rw (block-clear n inv)
+    (record {
       values-length = inv .values-length;
       bases-length = inv .bases-length;
       ends-length = inv .ends-length;
       low = omega (arith, inv .low);
       high = fits;
-      blocks = λ a k h. ⊎-elim (new a k) (λ m. omega (arith, inv .blocks a k m)) (List·Memᴰ·cases-cons h);
+      blocks = alloc some (inv .blocks);
       sound = λ w. sound-later (tail (allocated (s .unused) n)) (inv .sound w);
-      allowed = alloc (inv .allowed);
+      allowed = alloc-allowed (inv .allowed);
       clear = λ w h. inv .clear w (omega arith);
-    }
-  where
-    new : (a k : ℕ) → allocated a k ≡ allocated (s .unused) n → (vars < a) × (a + k ≤ s .unused + n)
-    new a k q =
-        let p : a ≡ s .unused = cc in
-        let r : k ≡ n = cc in
-        omega (arith, inv .low)
+    })
 
 -- The words of a new block hold its bounds.
 pub block-held : {vars : ℕ} (n : ℕ) (s : State) → 0 < n → Held vars (with-block n s .log) (s .unused) (s .unused + n)
@@ -189,7 +189,7 @@ read-good : {vars len : ℕ} (pointer : Bool) (l : Location) (s : State) → Inv
 unfolding read-step
 read-good {vars} {len} pointer l s inv good =
     rw (touchable-true inv (good .permitted))
-    (good-ok (no-block (loaded (l .at) (l .access)) inv not-loaded (load (good .permitted) (inv .allowed))) (noted-later (loaded (l .at) (l .access))) (kept pointer))
+    (good-ok (no-block (loaded (l .at) (l .access)) inv (load (inv .blocks)) (load-allowed (good .permitted) (inv .allowed))) (noted-later (loaded (l .at) (l .access))) (kept pointer))
   where
     kept : (b : Bool) → Datum-ok vars (contents b s (l .at)) (noted (loaded (l .at) (l .access)) s)
     kept true = record { sound = sound-later (tail (loaded (l .at) (l .access))) (inv .sound (l .at)) }
@@ -211,9 +211,10 @@ malloc-good {vars} {len} x s inv = go (eqb (x .value) 0) refl (leb (s .unused + 
         no-room s)
     go true e fits f = good-ok inv now (record { sound = absent refl refl })
     go false e true f =
-        good-ok (block-inv (x .value) inv (omega (arith, leb-true (s .unused + x .value) (length (s .values)) f, inv .values-length)))
-        (record { more = tail (allocated (s .unused) (x .value)); kept = λ w h. record { value = refl; base = refl; end = refl } })
-        (record { sound = held (block-held (x .value) s (omega (arith, eqb-false (x .value) 0 e))) })
+        let some : 0 < x .value = omega (arith, eqb-false (x .value) 0 e) in
+        good-ok (block-inv (x .value) some inv (omega (arith, leb-true (s .unused + x .value) (length (s .values)) f, inv .values-length)))
+        (rw (block-clear (x .value) inv) (record { more = tail (allocated (s .unused) (x .value)); kept = λ w h. record { value = refl; base = refl; end = refl } }))
+        (record { sound = held (block-held (x .value) s some) })
     go false e false f = good-no-room inv now
 
 -- ---- trees
@@ -272,8 +273,8 @@ assign-step-good {vars} pointer l x s inv place value =
     let e : with-datum pointer (l .at) x s .log ≡ s .log = log-kept pointer (l .at) x s in
     rw (touchable-true inv (place .permitted))
     (good-ok
-    (no-block (stored (l .at) (l .access)) (datum-inv pointer (l .at) x (used .1) inv value) not-stored
-    (rw e (store (place .permitted) (inv .allowed))))
+    (no-block (stored (l .at) (l .access)) (datum-inv pointer (l .at) x (used .1) inv value) (store (datum-inv pointer (l .at) x (used .1) inv value .blocks))
+    (rw e (store-allowed (place .permitted) (inv .allowed))))
     (stored-later pointer l x)
     (record {}))
 

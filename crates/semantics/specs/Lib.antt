@@ -8,4 +8,5 @@ pub mod Syntax
 pub mod Rules
 pub mod Run
 pub mod Safety
+pub mod Log
 pub mod Examples

@@ -4,7 +4,7 @@ use mathlib.Core.Bool.{Bool, true, false, _&&_}
 use mathlib.Core.List.{List, _∷_}
 use lib.ListN.{length, set}
 use lib.Dec.{leb, ltb, eqb}
-use Rattle.semantics.specs.Words.{Words, word, if_then_else_}
+use Rattle.semantics.specs.Words.{Words, word, zeroed, if_then_else_}
 use Rattle.semantics.specs.Syntax.{Place, Variable, Deref, Field, NoPlace, Value, Number, Sum, Read, Address, Cast, Malloc, NoValue}
 
 -- A value with its bounds [base, end). "A word with base 0 and end 0 has no bounds."
@@ -123,11 +123,16 @@ abbrev pub cast-step : Bool → Datum → State → Outcome Datum
 cast-step true p s = ok p s
 cast-step false p s = ok (unbounded (p .value)) s
 
--- The state after n words from U on were obtained. They are clear: a begun run clears all words, and none is written
--- while it isn't below U (theorem unused-words-are-clear).
+-- The state after n words from U on were obtained: "U rises by n. The new words are clear."
 abbrev pub with-block : ℕ → State → State
 with-block n s =
-    record { values = s .values; bases = s .bases; ends = s .ends; unused = s .unused + n; log = allocated (s .unused) n ∷ s .log }
+    record {
+      values = zeroed (s .values) (s .unused) n;
+      bases = zeroed (s .bases) (s .unused) n;
+      ends = zeroed (s .ends) (s .unused) n;
+      unused = s .unused + n;
+      log = allocated (s .unused) n ∷ s .log;
+    }
 
 -- "Obtain n: for n = 0, value 0 without bounds. Else no room exactly when U + n exceeds the length; otherwise value U,
 -- bounds [U, U + n), and U rises by n."

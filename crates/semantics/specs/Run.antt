@@ -1,15 +1,15 @@
 -- A whole call: what is answered, and what every lent word holds afterwards.
 use Prim.Native.Nat.{ℕ, zero, suc, _+_}
 use mathlib.Core.Bool.{true}
-use mathlib.Core.List.{[]}
-use lib.ListN.{length, replicate}
+use mathlib.Core.List.{[], _∷_}
+use lib.ListN.{length, replicate, set}
 use lib.Seq.{sets}
-use Rattle.semantics.specs.Words.{Words}
+use Rattle.semantics.specs.Words.{Words, zeroed}
 use Rattle.semantics.specs.Table.{variables, commands, count, is-pointer, node-type}
 use Rattle.semantics.specs.Registers.{register-count, register-variable, register-length, register-words}
 use Rattle.semantics.specs.Check.{Verdict, passes, refused, command-place, command-value, call-fault}
 use Rattle.semantics.specs.Syntax.{place-of, value-of}
-use Rattle.semantics.specs.Rules.{unbounded, block-pointer, State, with-values, Outcome, ok, fails, no-room, no-rule, with-block, with-datum, assign}
+use Rattle.semantics.specs.Rules.{unbounded, allocated, State, Outcome, ok, fails, no-room, no-rule, with-datum, assign}
 
 -- "U, the first unused word, starts at 1 + the number of variables." "A begun run first clears all three lists, then
 -- sets each variable's value from the input list, one input a variable."
@@ -17,19 +17,24 @@ unfoldable pub cleared : Words → Words → ℕ → State
 cleared t inputs len =
     record { values = sets (replicate len 0) 1 inputs; bases = replicate len 0; ends = replicate len 0; unused = 1 + count t variables; log = [] }
 
--- Request 1: a register of words ws becomes a block at U, its words without bounds, and variable v starts at it with its bounds. "With n = 0 it
--- starts as 0 without bounds."
+-- Request 1: a register of n words ws becomes a block at U, its words without bounds, and variable v starts at it with its bounds. "With n = 0
+-- it starts as 0 without bounds." The log has the block: "The fence rule now counts a register as a block obtained before the first command."
 abbrev pub with-register : (v n : ℕ) → Words → State → State
 with-register v zero ws s = with-datum true (1 + v) (unbounded 0) s
 with-register v (suc n) ws s =
-    with-datum true (1 + v) (block-pointer (s .unused) (suc n)) (with-values (sets (s .values) (s .unused) ws) (with-block (suc n) s))
+    record {
+      values = set (sets (s .values) (s .unused) ws) (1 + v) (s .unused);
+      bases = set (zeroed (s .bases) (s .unused) (suc n)) (1 + v) (s .unused);
+      ends = set (zeroed (s .ends) (s .unused) (suc n)) (1 + v) (s .unused + suc n);
+      unused = s .unused + suc n;
+      log = allocated (s .unused) (suc n) ∷ s .log;
+    }
 
 -- The registers below i in order; "U starts after the last register".
 unfoldable pub registers-below : Words → ℕ → State → State
 registers-below l zero s = s
 registers-below l (suc i) s = with-register (register-variable l i) (register-length l i) (register-words l i) (registers-below l i s)
 
--- "The fence rule now counts a register as a block obtained before the first command": with-block has it in the log.
 unfoldable pub begin : Words → Words → Words → ℕ → State
 begin t inputs registers len = registers-below registers (register-count registers) (cleared t inputs len)
 

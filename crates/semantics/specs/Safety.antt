@@ -2,13 +2,13 @@
 -- It speaks of the run that the definition of a call names, and of the log that the rules keep (specs/Rules.antt).
 use Prim.Native.Nat.{ℕ, _+_, _≤_, _<_}
 use mathlib.Core.Path.{_≡_}
-use mathlib.Core.List.{List, [], _∷_, List·Memᴰ}
+use mathlib.Core.List.{List, _∷_, _++_, List·Memᴰ}
 use lib.ListN.{length}
 use Rattle.semantics.specs.Words.{Words, word}
 use Rattle.semantics.specs.Table.{variables, count}
 use Rattle.semantics.specs.Check.{passes, call-fault}
-use Rattle.semantics.specs.Rules.{Datum, Access, named, followed, Event, loaded, stored, allocated, State}
-use Rattle.semantics.specs.Run.{begin, stuck, Run, run}
+use Rattle.semantics.specs.Rules.{Datum, Access, named, followed, Event, loaded, stored, allocated}
+use Rattle.semantics.specs.Run.{stuck, Run, run}
 
 -- The words [s, t) of a variable, or of a block that is obtained earlier: "earlier" are the events of the log given. A register is "a block
 -- obtained before the first command": a begun run's first log has it.
@@ -31,12 +31,10 @@ pub data Permitted (vars : ℕ) (log : List Event) (w : ℕ) : Access → Type 0
   by-name : {i : ℕ} → i < vars → w ≡ 1 + i → Permitted vars log w (named i)
   by-pointer : {p : Datum} → p .base ≤ w → w + 1 ≤ p .end → Held vars log (p .base) (p .end) → Permitted vars log w (followed p)
 
--- Every read and every write of a log, newest first, is permitted by the events before it.
-pub data Allowed (vars : ℕ) : List Event → Type 0 where
-  none : Allowed vars []
-  load : {w : ℕ} {a : Access} {log : List Event} → Permitted vars log w a → Allowed vars log → Allowed vars (loaded w a ∷ log)
-  store : {w : ℕ} {a : Access} {log : List Event} → Permitted vars log w a → Allowed vars log → Allowed vars (stored w a ∷ log)
-  alloc : {s n : ℕ} {log : List Event} → Allowed vars log → Allowed vars (allocated s n ∷ log)
+-- Every word read or written: wherever the log, newest first, is `later ++ event ∷ earlier`, the event is permitted by `earlier`.
+pub record Allowed (vars : ℕ) (log : List Event) : Type 0 where
+  pub reads : (later earlier : List Event) (w : ℕ) (a : Access) → log ≡ later ++ loaded w a ∷ earlier → Permitted vars earlier w a
+  pub writes : (later earlier : List Event) (w : ℕ) (a : Access) → log ≡ later ++ stored w a ∷ earlier → Permitted vars earlier w a
 
 -- "every word's bounds are absent or so held"
 pub data Sound (vars : ℕ) (log : List Event) (b e : ℕ) : Type 0 where
@@ -58,22 +56,3 @@ abbrev pub Spatially-safe : Words → Words → Words → Words → Words → Wo
 Spatially-safe t inputs registers values bases ends =
     call-fault t inputs registers (length values) (length bases) (length ends) ≡ passes
     → Safe (count t variables) (length values) (run t inputs registers (length values))
-
--- ---- The log can be believed: what it does not have as written is not written
-
--- No event of the log writes word w.
-abbrev pub Unwritten : ℕ → List Event → Type 0
-Unwritten w log = (a : Access) → List·Memᴰ (stored w a) log → ⊥
-
--- Value, base and end of word w are the same in two states.
-pub record Same-word (w : ℕ) (s s′ : State) : Type 0 where
-  pub value : word (s .values) w ≡ word (s′ .values) w
-  pub base : word (s .bases) w ≡ word (s′ .bases) w
-  pub end : word (s .ends) w ≡ word (s′ .ends) w
-
--- After a begun run, a word that its log does not have as written is as the run began with it.
-abbrev pub Writes-logged : Words → Words → Words → Words → Words → Words → Type 0
-Writes-logged t inputs registers values bases ends =
-    call-fault t inputs registers (length values) (length bases) (length ends) ≡ passes
-    → (w : ℕ) → Unwritten w (run t inputs registers (length values) .state .log)
-    → Same-word w (begin t inputs registers (length values)) (run t inputs registers (length values) .state)

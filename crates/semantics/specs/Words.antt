@@ -2,7 +2,8 @@
 use Prim.Native.Nat.{ℕ, zero, suc, _+_}
 use mathlib.Core.Bool.{Bool, true, false}
 use mathlib.Core.List.{List, [], _∷_, _++_}
-use lib.ListN.{getD}
+use lib.ListN.{getD, replicate}
+use lib.Seq.{sets}
 use lib.Dec.{ltb}
 
 -- A table, an input list and each list of the lent memory.
@@ -12,6 +13,10 @@ Words = List ℕ
 -- Word i of a list, 0 past its end.
 abbrev pub word : Words → ℕ → ℕ
 word l i = getD l i 0
+
+-- A list with 0 in the n words from `from` on.
+unfoldable pub zeroed : Words → ℕ → ℕ → Words
+zeroed l from n = sets l from (replicate n 0)
 
 infixr 20 if_then_else_
 abbrev pub if_then_else_ : {A : Type 0} → Bool → A → A → A

@@ -12,7 +12,8 @@ use Rattle.semantics.specs.Words.{Words, word}
 use Rattle.semantics.specs.Table.{is-pointer}
 use Rattle.semantics.specs.Rules.{Datum, unbounded, Location, variable-location, Event, State, Outcome, bind, in-bounds, checked, deref-step, field-step, touchable, contents, read-step, sum-step, cast-step, malloc-step}
 use Rattle.semantics.proofs.Tests.{in-bounds-true}
-use Rattle.semantics.proofs.Invariant.{permitted-used, Location-ok, Good, good-ok}
+use Rattle.semantics.proofs.Invariant.{Inv, permitted-used, Datum-ok, Location-ok, Good, good-ok}
+use Rattle.semantics.proofs.Steps.{block-clear}
 use Rattle.steps.specs.Answers.{column, failed, full, state-of, Answers, answers-ok, answers-failed, answers-full, Location-answers, Datum-answers, within-bounds, Variable-answered, Deref-answered, Field-answered, Sum-answered, Load-answered, Cast-answered, Malloc-answered}
 
 -- ---- bounds
@@ -61,6 +62,15 @@ pub goes-on : {A B : Type 0} {number base end : A → ℕ} {number′ base′ en
 goes-on f under (answers-ok x log p q s small) k = k x log p q s
 goes-on f under (answers-failed x log h) k = absurd (omega arith)
 goes-on f under (answers-full log h) k = absurd (omega arith)
+
+-- The same where the invariant is asked for.
+pub goes-on-good : {vars r b e u r′ b′ e′ u′ : ℕ} {m : List Words} {s₀ : State} {o : Outcome Datum} (f : Datum → State → Outcome Datum)
+    → r < failed → Datum-answers m r b e u o → Good vars (length (column m 0)) s₀ (Datum-ok vars) o
+    → ((x : Datum) (log : List Event) → x .value ≡ r → x .base ≡ b → x .end ≡ e → Inv vars (length (column m 0)) (state-of m u log) → Datum-answers m r′ b′ e′ u′ (f x (state-of m u log)))
+    → Datum-answers m r′ b′ e′ u′ (bind o f)
+goes-on-good f under (answers-ok x log p q s small) (good-ok inv later fine) k = k x log p q s inv
+goes-on-good f under (answers-failed x log h) g k = absurd (omega arith)
+goes-on-good f under (answers-full log h) g k = absurd (omega arith)
 
 -- ---- places
 
@@ -198,13 +208,13 @@ cast-pointer {k} {v} some = record { meets = λ m u o a. rw (le-leb 1 k (omega (
 -- ---- blocks
 
 pub malloc-ended : {len v u b′ e′ : ℕ} → failed ≤ v → Malloc-answered len v u v b′ e′ u
-malloc-ended {b′ = b′} {e′ = e′} over = record { meets = λ b e m o hl a. passed-on b′ e′ malloc-step over a }
+malloc-ended {b′ = b′} {e′ = e′} over = record { meets = λ vars b e m s₀ o hl a g. passed-on b′ e′ malloc-step over a }
 
 pub malloc-none : {len v u r b′ e′ u′ : ℕ} → v ≡ 0 → r ≡ 0 → b′ ≡ 0 → e′ ≡ 0 → u′ ≡ u → Malloc-answered len v u r b′ e′ u′
 unfolding malloc-step
 malloc-none h hr hb he hu =
     record {
-      meets = λ b e m o hl a.
+      meets = λ vars b e m s₀ o hl a g.
           goes-on malloc-step (omega arith) a
           (λ x log hx _ _. rw (eq-eqb (x .value) 0 (hx ∙ h), hu) (answers-ok (unbounded 0) log (sym hr) (sym hb) (sym he) (omega arith)));
     }
@@ -214,10 +224,10 @@ pub malloc-some : {len v u r b′ e′ u′ : ℕ} → v < failed → (v ≡ 0 �
 unfolding malloc-step
 malloc-some {len} {v} {u} under some fits hr hb he hu small =
     record {
-      meets = λ b e m o hl a.
-          goes-on malloc-step under a
-          (λ x log hx _ _.
-          rw (ne-eqb (x .value) 0 (λ z. some (sym hx ∙ z)), hx, le-leb (u + v) (length (column m 0)) (omega arith), hr, hb, he, hu)
+      meets = λ vars b e m s₀ o hl a g.
+          goes-on-good malloc-step under a g
+          (λ x log hx _ _ inv.
+          rw (ne-eqb (x .value) 0 (λ z. some (sym hx ∙ z)), hx, le-leb (u + v) (length (column m 0)) (omega arith), block-clear v inv, hr, hb, he, hu)
           (answers-ok _ _ refl refl refl small));
     }
 
@@ -225,7 +235,7 @@ pub malloc-full : {len v u b′ e′ : ℕ} → v < failed → (v ≡ 0 → ⊥)
 unfolding malloc-step
 malloc-full {len} {v} {u} under some over =
     record {
-      meets = λ b e m o hl a.
+      meets = λ vars b e m s₀ o hl a g.
           goes-on malloc-step under a
           (λ x log hx _ _.
           rw (ne-eqb (x .value) 0 (λ z. some (sym hx ∙ z)), hx, lt-leb (u + v) (length (column m 0)) (omega arith))

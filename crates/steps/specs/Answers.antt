@@ -7,7 +7,7 @@ use lib.ListN.{length, getD}
 use Rattle.semantics.specs.Words.{Words, word}
 use Rattle.semantics.specs.Table.{is-pointer}
 use Rattle.semantics.specs.Rules.{Datum, Location, Event, Shortfall, State, Outcome, ok, fails, no-room, bind, variable-location, in-bounds, deref-step, field-step, read-step, sum-step, cast-step, malloc-step}
-use Rattle.semantics.proofs.Invariant.{Location-ok, Good}
+use Rattle.semantics.proofs.Invariant.{Datum-ok, Location-ok, Good}
 
 -- List j of some lists.
 abbrev pub column : List Words → ℕ → Words
@@ -77,6 +77,7 @@ pub record Cast-answered (keeps v b e b′ e′ : ℕ) : Type 0 where
   pub meets : (m : List Words) (u : ℕ) (o : Outcome Datum) → Datum-answers m v b e u o
       → Datum-answers m v b′ e′ u (bind o (cast-step (is-pointer keeps)))
 
+-- The words obtained are clear already: that is what the invariant gives.
 pub record Malloc-answered (len v u r b′ e′ u′ : ℕ) : Type 0 where
-  pub meets : (b e : ℕ) (m : List Words) (o : Outcome Datum) → length (column m 0) ≡ len → Datum-answers m v b e u o
-      → Datum-answers m r b′ e′ u′ (bind o malloc-step)
+  pub meets : (vars b e : ℕ) (m : List Words) (s₀ : State) (o : Outcome Datum) → length (column m 0) ≡ len → Datum-answers m v b e u o
+      → Good vars (length (column m 0)) s₀ (Datum-ok vars) o → Datum-answers m r b′ e′ u′ (bind o malloc-step)

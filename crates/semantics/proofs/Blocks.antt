@@ -1,0 +1,175 @@
+-- Where an event stands in a log, and that the blocks of a log lie apart.
+use Prim.Native.Nat.{ℕ, _+_, _≤_, _<_}
+use mathlib.Core.Path.{_≡_, sym, _∙_}
+use mathlib.Core.Logic.{_⊎_, inl, inr, ⊎-elim}
+use mathlib.Core.List.{List, [], _∷_, _++_, List·Memᴰ, List·Memᴰ·not-nil, List·Memᴰ·cases-cons}
+use native.Mathlib.Omega.{arith}
+use Rattle.semantics.specs.Rules.{Access, Event, loaded, stored, allocated}
+use Rattle.semantics.specs.Safety.{Region, variable, block, Permitted, Allowed}
+use Rattle.semantics.specs.Log.{Blocks-apart}
+
+-- ---- the event that stands between `later` and `earlier`
+
+pub record Splits (log : List Event) (e : Event) (earlier : List Event) : Type 0 where
+  pub later : List Event
+  pub is : log ≡ later ++ e ∷ earlier
+
+nil-no-split : (later : List Event) (e : Event) (earlier : List Event) → [] ≡ later ++ e ∷ earlier → ⊥
+nil-no-split [] e earlier q = let z : _≡_ {A = ℕ} 0 1 = cc in omega arith
+nil-no-split (x ∷ later) e earlier q = let z : _≡_ {A = ℕ} 0 1 = cc in omega arith
+
+-- It is the newest, or it stands in the log before that.
+split : (x : Event) (log later : List Event) (e : Event) (earlier : List Event) → x ∷ log ≡ later ++ e ∷ earlier → ((x ≡ e) × (log ≡ earlier)) ⊎ Splits log e earlier
+split x log [] e earlier q = inl (cc, cc)
+split x log (y ∷ later) e earlier q = inr (record { later = later; is = cc })
+
+-- ---- events of different kinds differ
+
+not-loaded : {w : ℕ} {x : Access} {a n : ℕ} → allocated a n ≡ loaded w x → ⊥
+not-loaded q = let z : _≡_ {A = ℕ} 0 1 = cc in omega arith
+
+not-stored : {w : ℕ} {x : Access} {a n : ℕ} → allocated a n ≡ stored w x → ⊥
+not-stored q = let z : _≡_ {A = ℕ} 0 1 = cc in omega arith
+
+other-kinds : {w v : ℕ} {a b : Access} → loaded w a ≡ stored v b → ⊥
+other-kinds q = let z : _≡_ {A = ℕ} 0 1 = cc in omega arith
+
+-- ---- what is allowed, event by event
+
+module _ {vars : ℕ} where
+  pub none-allowed : Allowed vars []
+  none-allowed =
+      record { reads = λ later earlier w a q. absurd (nil-no-split later (loaded w a) earlier q); writes = λ later earlier w a q. absurd (nil-no-split later (stored w a) earlier q) }
+
+  -- One event more: if it reads or writes, it is permitted by the log before it.
+  one-allowed : {x : Event} {log : List Event} → ((w : ℕ) (a : Access) → x ≡ loaded w a → Permitted vars log w a) → ((w : ℕ) (a : Access) → x ≡ stored w a → Permitted vars log w a)
+      → Allowed vars log → Allowed vars (x ∷ log)
+  one-allowed {x} {log} read write h =
+      record {
+        reads = λ later earlier w a q. go (loaded w a) earlier w a (read w a) (λ l e. h .reads l earlier w a e) (split x log later (loaded w a) earlier q);
+        writes = λ later earlier w a q. go (stored w a) earlier w a (write w a) (λ l e. h .writes l earlier w a e) (split x log later (stored w a) earlier q);
+      }
+    where
+      go : (e : Event) (earlier : List Event) (w : ℕ) (a : Access) → (x ≡ e → Permitted vars log w a) → ((later : List Event) → log ≡ later ++ e ∷ earlier → Permitted vars earlier w a)
+          → ((x ≡ e) × (log ≡ earlier)) ⊎ Splits log e earlier → Permitted vars earlier w a
+      go e earlier w a here below (inl p) = rw (p .1) at (here (p .0))
+      go e earlier w a here below (inr d) = below (d .later) (d .is)
+
+  pub load-allowed : {w : ℕ} {a : Access} {log : List Event} → Permitted vars log w a → Allowed vars log → Allowed vars (loaded w a ∷ log)
+  load-allowed {w} {a} {log} h = one-allowed (λ v b q. same v b q h) (λ v b q. absurd (other-kinds q))
+    where
+      same : (v : ℕ) (b : Access) → loaded w a ≡ loaded v b → Permitted vars log w a → Permitted vars log v b
+      same v b q k =
+          let e : w ≡ v = cc in
+          let f : a ≡ b = cc in
+          rw (e, f) at k
+
+  pub store-allowed : {w : ℕ} {a : Access} {log : List Event} → Permitted vars log w a → Allowed vars log → Allowed vars (stored w a ∷ log)
+  store-allowed {w} {a} {log} h = one-allowed (λ v b q. absurd (other-kinds (sym q))) (λ v b q. same v b q h)
+    where
+      same : (v : ℕ) (b : Access) → stored w a ≡ stored v b → Permitted vars log w a → Permitted vars log v b
+      same v b q k =
+          let e : w ≡ v = cc in
+          let f : a ≡ b = cc in
+          rw (e, f) at k
+
+  pub alloc-allowed : {s n : ℕ} {log : List Event} → Allowed vars log → Allowed vars (allocated s n ∷ log)
+  alloc-allowed = one-allowed (λ w a q. absurd (not-loaded q)) (λ w a q. absurd (not-stored q))
+
+-- ---- blocks
+
+-- The blocks of a log lie one after the other above the variables, and the newest ends at U.
+pub data Stacked (vars : ℕ) : List Event → ℕ → Type 0 where
+  none : Stacked vars [] (1 + vars)
+  load : {w : ℕ} {a : Access} {log : List Event} {u : ℕ} → Stacked vars log u → Stacked vars (loaded w a ∷ log) u
+  store : {w : ℕ} {a : Access} {log : List Event} {u : ℕ} → Stacked vars log u → Stacked vars (stored w a ∷ log) u
+  alloc : {n : ℕ} {log : List Event} {u : ℕ} → 0 < n → Stacked vars log u → Stacked vars (allocated u n ∷ log) (u + n)
+
+stacked-low : {vars u : ℕ} {log : List Event} → Stacked vars log u → vars < u
+stacked-low none = omega arith
+stacked-low (load st) = stacked-low st
+stacked-low (store st) = stacked-low st
+stacked-low (alloc some st) = omega (arith, stacked-low st)
+
+-- Each has a word, and lies above the variables and below U.
+pub stacked-inside : {vars u : ℕ} {log : List Event} → Stacked vars log u → (a n : ℕ) → List·Memᴰ (allocated a n) log → (0 < n) × (vars < a) × (a + n ≤ u)
+stacked-inside none a n h = absurd (List·Memᴰ·not-nil h)
+stacked-inside (load st) a n h = ⊎-elim (λ q. absurd (not-loaded q)) (λ m. stacked-inside st a n m) (List·Memᴰ·cases-cons h)
+stacked-inside (store st) a n h = ⊎-elim (λ q. absurd (not-stored q)) (λ m. stacked-inside st a n m) (List·Memᴰ·cases-cons h)
+stacked-inside {vars} (alloc {n = k} {u = u} some st) a n h = ⊎-elim new (λ m. omega (arith, stacked-inside st a n m)) (List·Memᴰ·cases-cons h)
+  where
+    new : allocated a n ≡ allocated u k → (0 < n) × (vars < a) × (a + n ≤ u + k)
+    new q =
+        let p : a ≡ u = cc in
+        let r : n ≡ k = cc in
+        omega (arith, stacked-low st)
+
+-- The blocks before a block lie below it.
+stacked-before : {vars u : ℕ} {log : List Event} → Stacked vars log u → (later : List Event) (a n : ℕ) (earlier : List Event) → log ≡ later ++ allocated a n ∷ earlier → Stacked vars earlier a
+stacked-before none later a n earlier q = absurd (nil-no-split later (allocated a n) earlier q)
+stacked-before {vars} (load {w = w} {a = x} {log = log} st) later a n earlier q =
+    ⊎-elim (λ p. absurd (not-loaded (sym (p .0)))) (λ d. stacked-before st (d .later) a n earlier (d .is)) (split (loaded w x) log later (allocated a n) earlier q)
+stacked-before {vars} (store {w = w} {a = x} {log = log} st) later a n earlier q =
+    ⊎-elim (λ p. absurd (not-stored (sym (p .0)))) (λ d. stacked-before st (d .later) a n earlier (d .is)) (split (stored w x) log later (allocated a n) earlier q)
+stacked-before {vars} (alloc {n = k} {log = log} {u = u} some st) later a n earlier q =
+    ⊎-elim here (λ d. stacked-before st (d .later) a n earlier (d .is)) (split (allocated u k) log later (allocated a n) earlier q)
+  where
+    here : (allocated u k ≡ allocated a n) × (log ≡ earlier) → Stacked vars earlier a
+    here p =
+        let same = p .0 in
+        let start : u ≡ a = cc in
+        rw (start, p .1) at st
+
+-- ---- a variable and a block, and two blocks, share no word
+
+module _ {vars u : ℕ} {log : List Event} (st : Stacked vars log u) where
+  -- The words of a variable or block are in use.
+  pub region-used : {s t : ℕ} → Region vars log s t → (0 < s) × (t ≤ u)
+  region-used (variable i h) = omega (arith, stacked-low st)
+  region-used (block s n h) = omega (arith, stacked-inside st s n h)
+
+-- Two blocks of the log that share a word are one.
+two-blocks : {vars u : ℕ} {log : List Event} → Stacked vars log u → (a n b k w : ℕ) → List·Memᴰ (allocated a n) log → List·Memᴰ (allocated b k) log
+    → a ≤ w → w < a + n → b ≤ w → w < b + k → (a ≡ b) × (n ≡ k)
+two-blocks none a n b k w h g la lb ma mb = absurd (List·Memᴰ·not-nil h)
+two-blocks (load st) a n b k w h g la lb ma mb =
+    ⊎-elim (λ q. absurd (not-loaded q)) (λ h′. ⊎-elim (λ q. absurd (not-loaded q)) (λ g′. two-blocks st a n b k w h′ g′ la lb ma mb) (List·Memᴰ·cases-cons g)) (List·Memᴰ·cases-cons h)
+two-blocks (store st) a n b k w h g la lb ma mb =
+    ⊎-elim (λ q. absurd (not-stored q)) (λ h′. ⊎-elim (λ q. absurd (not-stored q)) (λ g′. two-blocks st a n b k w h′ g′ la lb ma mb) (List·Memᴰ·cases-cons g)) (List·Memᴰ·cases-cons h)
+two-blocks (alloc {n = m} {log = log} {u = u} some st) a n b k w h g la lb ma mb =
+    go (List·Memᴰ·cases-cons h) (List·Memᴰ·cases-cons g) (λ h′ g′. two-blocks st a n b k w h′ g′ la lb ma mb)
+  where
+    -- The newest block starts where those before it end.
+    below : (c d : ℕ) → c ≡ u → c ≤ w → w < d → d ≤ u → ⊥
+    below c d e from less upto = omega arith
+
+    start : (c d : ℕ) → allocated c d ≡ allocated u m → c ≡ u
+    start c d q = cc
+
+    words : (c d : ℕ) → allocated c d ≡ allocated u m → d ≡ m
+    words c d q = cc
+
+    go : (allocated a n ≡ allocated u m) ⊎ List·Memᴰ (allocated a n) log → (allocated b k ≡ allocated u m) ⊎ List·Memᴰ (allocated b k) log
+        → (List·Memᴰ (allocated a n) log → List·Memᴰ (allocated b k) log → (a ≡ b) × (n ≡ k)) → (a ≡ b) × (n ≡ k)
+    go (inl p) (inl q) deeper = (start a n p ∙ sym (start b k q), words a n p ∙ sym (words b k q))
+    go (inl p) (inr g′) deeper = absurd (below a (b + k) (start a n p) la mb (stacked-inside st b k g′ .2))
+    go (inr h′) (inl q) deeper = absurd (below b (a + n) (start b k q) ma lb (stacked-inside st a n h′ .2))
+    go (inr h′) (inr g′) deeper = deeper h′ g′
+
+module _ {vars u : ℕ} {log : List Event} (st : Stacked vars log u) where
+  -- A word is of one variable or block at most.
+  one-region : {s t s′ t′ w : ℕ} → Region vars log s t → Region vars log s′ t′ → s ≤ w → w < t → s′ ≤ w → w < t′ → (s ≡ s′) × (t ≡ t′)
+  one-region (variable i h) (variable j k) a b c d = omega arith
+  one-region (variable i h) (block s n k) a b c d = absurd (omega (arith, stacked-inside st s n k))
+  one-region (block s n k) (variable i h) a b c d = absurd (omega (arith, stacked-inside st s n k))
+  one-region {w = w} (block s n h) (block s′ n′ k) a b c d =
+      let same = two-blocks st s n s′ n′ w h k a b c d in
+      (same .0, rw (same .0, same .1))
+
+  pub blocks-apart : {len : ℕ} → u ≤ len → Blocks-apart vars len log
+  blocks-apart high =
+      record {
+        inside = λ s n h. omega (arith, stacked-inside st s n h);
+        apart = λ later earlier s n s′ n′ w q h from upto from′ upto′. absurd (omega (arith, stacked-inside (stacked-before st later s n earlier q) s′ n′ h));
+        one = λ {b} {e} h k. one-region (h .region) (k .region) (h .from) (omega (arith, h .proper, h .upto)) (k .from) (omega (arith, k .proper, k .upto));
+      }
