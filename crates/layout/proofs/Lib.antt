@@ -1,4 +1,5 @@
 -- Laws that the proofs of the functions share.
 pub mod Laws
+pub mod Lists
 pub mod Sections
 pub mod Types

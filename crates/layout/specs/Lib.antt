@@ -1,3 +1,4 @@
 -- What the contracts of this crate cite.
 pub mod Layout
+pub mod Lists
 pub mod Types

@@ -18,7 +18,6 @@ use Rattle.semantics.proofs.Tests.{and-true, or-true}
 use Rattle.semantics.proofs.Trees.{Node-ok, node-ok, is-child-true, types-known}
 use Rattle.layout.specs.Types.{Record-in}
 use Rattle.layout.proofs.Types.{record-in}
-use Rattle.sizes.specs.Sizes.{Tails}
 use Rattle.lookups.specs.Lists.{part, Lists, Field-node, Known-word}
 use Rattle.steps.specs.Answers.{column}
 
@@ -59,8 +58,6 @@ record Record-at (t : Words) (l : List Words) (r : ℕ) : Type 0 where
   most : count t fields ≤ 128
   size : word (column l 5) r ≡ size-of t (65536 + r)
   size-room : r < length (column l 5)
-  tails : Tails t (column l 6) r 0
-  tail-room : count t fields ≤ length (column l 6)
 
 record-at : {t : Words} {l : List Words} → Lists t l → (r : ℕ) → r < count t records → Record-at t l r
 record-at h r less =
@@ -69,10 +66,8 @@ record-at h r less =
       first = record-in ok (h .firsts) r less;
       less = omega (arith, h .first-room);
       most = few-fields ok;
-      size = h .sized .size-is r less;
+      size = h .size-is r less;
       size-room = omega (arith, h .size-room);
-      tails = h .sized .noted r less;
-      tail-room = h .tail-room;
     }
 
 -- ---- pointer types
@@ -155,8 +150,8 @@ module _ {t : Words} {l : List Words} {n : ℕ} (h : Field-node t l n) where
     at : Record-at t l r
     at = rw e here
 
-    pub record-inside : (r < 32) × (r < length (column l 4)) × (r < length (column l 5))
-    record-inside = (at .first .few, at .less, at .size-room)
+    pub record-inside : (r < 32) × (r < length (column l 4))
+    record-inside = (at .first .few, at .less)
 
     module _ {b : ℕ} (q : b ≡ part l n 2) where
       number-is : b ≡ node-b t n
@@ -170,7 +165,7 @@ module _ {t : Words} {l : List Words} {n : ℕ} (h : Field-node t l n) where
   module _ {f : ℕ} (e : f ≡ first-field t (record-of t n) + node-b t n) where
     pub field-inside : (f < 128) × (2 * f + 1 < length (column l 3)) × (f < length (column l 6))
     field-inside =
-        omega (arith, field-found h .less, here .first .inside, here .most, here .tail-room, h .lists .field-room)
+        omega (arith, field-found h .less, here .first .inside, here .most, h .lists .offset-room, h .lists .field-room)
 
     pub count-is : {x : ℕ} → x ≡ word (column l 3) (2 * f + 1) → x ≡ field-count t (record-of t n) (node-b t n)
     unfolding field-count
@@ -178,12 +173,8 @@ module _ {t : Words} {l : List Words} {n : ℕ} (h : Field-node t l n) where
         let i = field-found h in
         p ∙ rw e (h .lists .field-is (first-field t (record-of t n) + node-b t n) (field-in (h .lists .passed .types) (record-of t n) (node-b t n) (i .rec) (i .less)))
 
-    -- The words from the field on and its offset together are the record's size.
-    pub offset-is : {r x y : ℕ} → r ≡ record-of t n → x ≡ word (column l 5) r → y ≡ word (column l 6) f → x ≡ y + field-offset t (record-of t n) (node-b t n)
-    offset-is {x = x} {y = y} q p s =
-        let x′ : x ≡ size-of t (65536 + record-of t n) = p ∙ rw q (here .size) in
-        let y′ : y ≡ word (column l 6) (first-field t (record-of t n) + node-b t n) = s ∙ rw e refl in
-        omega (arith, here .tails .together (node-b t n) (omega arith) (field-found h .less))
+    pub offset-is : {x : ℕ} → x ≡ word (column l 6) f → x ≡ field-offset t (record-of t n) (node-b t n)
+    offset-is p = let i = field-found h in p ∙ rw e (h .lists .offset-is (record-of t n) (node-b t n) (i .rec) (i .less))
 
 -- ---- sizes
 

@@ -5,18 +5,17 @@ use mathlib.Core.Path.{_≡_}
 use mathlib.Core.List.{List}
 use lib.ListN.{length}
 use Rattle.semantics.specs.Words.{Words, word}
-use Rattle.semantics.specs.Table.{records, fields, pointers, nodes, count, item, first-field, field, value, sort-of, node-kind, node-type}
+use Rattle.semantics.specs.Table.{records, fields, pointers, nodes, count, item, record-target, field-total, first-field, field-offset, size-of, field, value, sort-of, node-kind, node-type}
 use Rattle.semantics.proofs.Passed.{Passed}
 use Rattle.steps.specs.Answers.{column}
 use Rattle.layout.specs.Types.{Tabulated}
-use Rattle.sizes.specs.Sizes.{Sized}
 
 -- Word j of node n.
 abbrev pub part : List Words → ℕ → ℕ → ℕ
 part l n j = word (column l 0) (n * 3 + j)
 
 -- l are the lists of the table t: its nodes, their types, the targets of its pointers, its fields, the first field of each
--- record, the size of each record, and the words of a record from each field on. Of the types, those of values are asked.
+-- record, the size of each record, and the offset of each field. Of the types, those of values are asked.
 pub record Lists (t : Words) (l : List Words) : Type 0 where
   pub passed : Passed t
   pub node-is : (n j : ℕ) → n < count t nodes → j < 3 → part l n j ≡ item t nodes n j
@@ -29,9 +28,10 @@ pub record Lists (t : Words) (l : List Words) : Type 0 where
   pub field-room : 2 * count t fields ≤ length (column l 3)
   pub firsts : Tabulated (column l 4) (count t records) (first-field t)
   pub first-room : count t records < length (column l 4)
-  pub sized : Sized t (column l 5) (column l 6) (count t records)
+  pub size-is : (r : ℕ) → r < count t records → word (column l 5) r ≡ size-of t (record-target r)
   pub size-room : count t records ≤ length (column l 5)
-  pub tail-room : count t fields ≤ length (column l 6)
+  pub offset-is : (r f : ℕ) → r < count t records → f < field-total t r → word (column l 6) (first-field t r + f) ≡ field-offset t r f
+  pub offset-room : count t fields ≤ length (column l 6)
 
 -- Node n of the table is a field.
 pub record Field-node (t : Words) (l : List Words) (n : ℕ) : Type 0 where

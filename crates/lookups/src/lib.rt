@@ -1,6 +1,6 @@
 // What is looked up in the lists of a table that has passed the check: words of its nodes, types, fields, sizes and steps.
 // `l` are these lists: its nodes, their types, the targets of its pointers, its fields, the first field of each record, the size of each
-// record, and the words of a record from each field on.
+// record, and the offset of each field.
 ghost use mathlib.Core.Path.{_≡_};
 ghost use mathlib.Core.List.{map};
 ghost use Prim.Native.Nat.{_+_, _*_, _≤_, _<_, _^_};
@@ -69,12 +69,12 @@ fn number(l: &[&[u32]; 7], n: usize) -> usize
     index(entry(l, 4, record(l, n))) + child(l, n, 2)
 }
 
-// How many words of the record stand before node n, a field: its size less those from the field on.
+// How many words of the record stand before node n, a field.
 pub fn offset(l: &[&[u32]; 7], n: usize) -> u32
     requires { ⌜ Field-ready (map (λ x. now x) (now l)) n ⌝ }
     ensures { λ r. ⌜ ((t : Words) → Field-node t (map (λ x. now x) (now (l .entry))) n → r ≡ field-offset t (pointed-record t (node-type t (node-a t n))) (node-b t n)) ⌝ }
 {
-    entry(l, 5, record(l, n)) - entry(l, 6, number(l, n))
+    entry(l, 6, number(l, n))
 }
 
 // How many words node n, a field, has.

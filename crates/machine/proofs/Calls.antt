@@ -130,7 +130,7 @@ stands {t} ok s h =
     let k = section-ok t s (ok .types .sections s h) in
     record { first = refl; total = refl; limited = k .limited; extent = omega (arith, k .extent, section-end t s) }
 
-module _ {t first sizes tails notes : Words} {l : Table} (pr : Program t first sizes tails notes) (el : l ≡ layout t) where
+module _ {t first sizes offsets notes : Words} {l : Table} (pr : Program t first sizes offsets notes) (el : l ≡ layout t) where
   passes-all : Passed t
   passes-all = passed t (pr .passed)
 
@@ -150,10 +150,10 @@ module _ {t first sizes tails notes : Words} {l : Table} (pr : Program t first s
   commands-stand = rw el (stands passes-all 5 (omega arith))
 
   -- The lists that the evaluator reads.
-  lists-drop : {nodes-at pointers-at fields-at : ℕ} → length first ≡ 33 → length sizes ≡ 32 → length tails ≡ 128 → length notes ≡ 512 → nodes-at ≡ l .nodes .at → pointers-at ≡ l .pointers .at → fields-at ≡ l .fields .at
-      → Lists t (drop nodes-at t ∷ notes ∷ drop pointers-at t ∷ drop fields-at t ∷ first ∷ sizes ∷ tails ∷ [])
+  lists-drop : {nodes-at pointers-at fields-at : ℕ} → length first ≡ 33 → length sizes ≡ 32 → length offsets ≡ 128 → length notes ≡ 512 → nodes-at ≡ l .nodes .at → pointers-at ≡ l .pointers .at → fields-at ≡ l .fields .at
+      → Lists t (drop nodes-at t ∷ notes ∷ drop pointers-at t ∷ drop fields-at t ∷ first ∷ sizes ∷ offsets ∷ [])
   unfolding note
-  lists-drop {nodes-at} {pointers-at} {fields-at} first-length size-length tail-length notes-length hn hp hf =
+  lists-drop {nodes-at} {pointers-at} {fields-at} first-length size-length offset-length notes-length hn hp hf =
       let fs = fields-stand in
       let ps = pointers-stand in
       let ns = nodes-stand in
@@ -170,13 +170,14 @@ module _ {t first sizes tails notes : Words} {l : Table} (pr : Program t first s
         field-room = omega (arith, length-drop fields-at t, fs .extent, fs .total);
         firsts = pr .left .firsts;
         first-room = omega (arith, rs .limited, rs .total);
-        sized = pr .left .sized;
+        size-is = pr .left .size-is;
         size-room = omega (arith, rs .limited, rs .total);
-        tail-room = omega (arith, fs .limited, fs .total);
+        offset-is = pr .left .offset-is;
+        offset-room = omega (arith, fs .limited, fs .total);
       }
 
-  pub lists-are : {nodes-at pointers-at fields-at : ℕ} → length first ≡ 33 → length sizes ≡ 32 → length tails ≡ 128 → length notes ≡ 512 → nodes-at ≡ l .nodes .at → pointers-at ≡ l .pointers .at → fields-at ≡ l .fields .at
-      → Lists t (rest nodes-at t ∷ notes ∷ rest pointers-at t ∷ rest fields-at t ∷ first ∷ sizes ∷ tails ∷ [])
+  pub lists-are : {nodes-at pointers-at fields-at : ℕ} → length first ≡ 33 → length sizes ≡ 32 → length offsets ≡ 128 → length notes ≡ 512 → nodes-at ≡ l .nodes .at → pointers-at ≡ l .pointers .at → fields-at ≡ l .fields .at
+      → Lists t (rest nodes-at t ∷ notes ∷ rest pointers-at t ∷ rest fields-at t ∷ first ∷ sizes ∷ offsets ∷ [])
   lists-are {nodes-at} {pointers-at} {fields-at} hf hs ht hn en ep ef = rw (rest-drop nodes-at t, rest-drop pointers-at t, rest-drop fields-at t) (lists-drop hf hs ht hn en ep ef)
 
   module _ (inputs registers vs bs es : Words) (e : passes ≡ rest-fault t inputs registers (length vs) (length bs) (length es)) where
@@ -210,7 +211,7 @@ module _ {t first sizes tails notes : Words} {l : Table} (pr : Program t first s
       unfolding state
       starts = rw (first-length, ← same-state) (begin-inv call-begun)
 
-      pub call-startable : Startable t l first sizes tails notes u v₁ b₁ e₁
+      pub call-startable : Startable t l first sizes offsets notes u v₁ b₁ e₁
       call-startable =
           record { program = pr; layout-is = el; log = state .log; inv = starts; most = omega (arith, first-length, call-begun .lists .most) }
 

@@ -35,9 +35,9 @@ pub record Is (result : Result) (r : Answer) (vs bs es : Words) : Type 0 where
   pub ends : es ≡ result .ends
 
 -- The table passes the check, which has left these lists.
-pub record Program (t first sizes tails notes : Words) : Type 0 where
+pub record Program (t first sizes offsets notes : Words) : Type 0 where
   pub passed : check t ≡ passes
-  pub left : Left t first sizes tails notes
+  pub left : Left t first sizes offsets notes
 
 -- Lists in which a run of a table with this many variables can be begun.
 pub record Can-begin (vars : ℕ) (inputs registers vs bs es : Words) : Type 0 where
@@ -50,8 +50,8 @@ pub record Has-begun (vars : ℕ) (inputs registers vs vs′ bs′ es′ : Words
   pub begins : (t : Words) → vars ≡ count t variables → Holds (semantics.begin t inputs registers (length vs)) vs′ bs′ es′ u
 
 -- The table's layout, and lists that hold a state which a run of the table can begin with.
-pub record Startable (t : Words) (l : Table) (first sizes tails notes : Words) (u : ℕ) (vs bs es : Words) : Type 0 where
-  pub program : Program t first sizes tails notes
+pub record Startable (t : Words) (l : Table) (first sizes offsets notes : Words) (u : ℕ) (vs bs es : Words) : Type 0 where
+  pub program : Program t first sizes offsets notes
   pub layout-is : l ≡ layout t
   pub log : List Event
   pub inv : Starts t vs bs es u log

@@ -89,14 +89,14 @@ fn run_commands<'a>(
     layout: Table,
     first: &'a [u32; 33],
     sizes: &'a [u32; 32],
-    tails: &'a [u32; 128],
+    offsets: &'a [u32; 128],
     notes: &'a [u32; 512],
     unused: u32,
     values: &mut [u32],
     bases: &mut [u32],
     ends: &mut [u32],
 ) -> Answer
-    requires { ⌜ Startable (now t) layout (now first) (now sizes) (now tails) (now notes) unused (now values) (now bases) (now ends) ⌝ }
+    requires { ⌜ Startable (now t) layout (now first) (now sizes) (now offsets) (now notes) unused (now values) (now bases) (now ends) ⌝ }
     ensures { λ r. ⌜ Executed (now (t .entry)) (now (values .entry)) (now (bases .entry)) (now (ends .entry)) unused r (now (values .exit)) (now (bases .exit)) (now (ends .exit)) ⌝ }
 {
     let fields = layout.fields;
@@ -113,7 +113,7 @@ fn run_commands<'a>(
         &t[first_field..],
         &first[..],
         &sizes[..],
-        &tails[..],
+        &offsets[..],
     ];
     let e = commands::execute(
         t,
@@ -134,7 +134,7 @@ fn run_checked<'a>(
     layout: Table,
     first: &'a [u32; 33],
     sizes: &'a [u32; 32],
-    tails: &'a [u32; 128],
+    offsets: &'a [u32; 128],
     notes: &'a [u32; 512],
     inputs: &[u32],
     registers: &[u32],
@@ -142,7 +142,7 @@ fn run_checked<'a>(
     bases: &mut [u32],
     ends: &mut [u32],
 ) -> Answer
-    requires { ⌜ (Program (now t) (now first) (now sizes) (now tails) (now notes)) × (layout ≡ layout-specs.layout (now t)) ⌝ }
+    requires { ⌜ (Program (now t) (now first) (now sizes) (now offsets) (now notes)) × (layout ≡ layout-specs.layout (now t)) ⌝ }
     ensures { λ r. ⌜ Is (call (now (t .entry)) (now (inputs .entry)) (now (registers .entry)) (now (values .entry)) (now (bases .entry)) (now (ends .entry))) r (now (values .exit)) (now (bases .exit)) (now (ends .exit)) ⌝ }
 {
     let variables = layout.variables;
@@ -163,7 +163,7 @@ fn run_checked<'a>(
         layout,
         first,
         sizes,
-        tails,
+        offsets,
         notes,
         unused,
         values,
@@ -178,9 +178,9 @@ pub fn check(t: &[u32]) -> Verdict
 {
     let mut first = [0u32; 33];
     let mut sizes = [0u32; 32];
-    let mut tails = [0u32; 128];
+    let mut offsets = [0u32; 128];
     let mut notes = [0u32; 512];
-    match table::check(t, &mut first, &mut sizes, &mut tails, &mut notes) {
+    match table::check(t, &mut first, &mut sizes, &mut offsets, &mut notes) {
         Parsed::Is(_) => Verdict::Passes,
         Parsed::Refused(n, p) => Verdict::Refused(n, p),
     }
@@ -200,15 +200,15 @@ pub fn run(
 {
     let mut first = [0u32; 33];
     let mut sizes = [0u32; 32];
-    let mut tails = [0u32; 128];
+    let mut offsets = [0u32; 128];
     let mut notes = [0u32; 512];
-    match table::check(t, &mut first, &mut sizes, &mut tails, &mut notes) {
+    match table::check(t, &mut first, &mut sizes, &mut offsets, &mut notes) {
         Parsed::Is(l) => run_checked(
             t,
             l,
             &first,
             &sizes,
-            &tails,
+            &offsets,
             &notes,
             inputs,
             registers,

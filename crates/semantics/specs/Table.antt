@@ -108,10 +108,6 @@ field-offset t r f = sum-below f (field-count t r)
 unfoldable pub size-of : Words → ℕ → ℕ
 size-of t x = if ltb x (record-target 0) then 1 else field-offset t (x - record-target 0) (field-total t (x - record-target 0))
 
--- The sum of the counts from field f on. Request 3: "the sum so far and that field's offset together are the record's size".
-unfoldable pub words-from : Words → ℕ → ℕ → ℕ
-words-from t r f = sum-below (field-total t r - f) (λ i. field-count t r (f + i))
-
 -- Kinds 1 to 10, and every other word.
 pub data Kind : Type 0 where
   variable deref field constant sum read address cast size malloc unknown : Kind

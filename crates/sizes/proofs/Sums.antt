@@ -1,78 +1,68 @@
--- Laws of what is noted while a record's words are added up.
-use Prim.Native.Nat.{ℕ, suc, _+_, _≤_, _<_}
-use mathlib.Core.Path.{_≡_, refl, sym, _∙_}
+-- Laws of the sums over a record's fields, and of the lists in which they are noted.
+use Prim.Native.Nat.{ℕ, zero, suc, _+_, _≤_, _<_}
+use mathlib.Core.Path.{_≡_, refl, _∙_}
 use native.Mathlib.Omega.{arith}
 use native.Mathlib.Nat.{not-suc-le-zero}
+use native.Mathlib.Numerals.{add-one}
 use native.Mathlib.Decide.{ℕ-discrete}
-use lib.ListN.{length, set, length-set}
-use lib.Seq.{getD-set-same, getD-set-other}
+use lib.ListN.{length, set}
 use Rattle.semantics.specs.Words.{Words, word}
-use Rattle.semantics.specs.Table.{fields, item, record-target, field-total, first-field, field-offset, field-count, size-of, words-from}
-use Rattle.semantics.proofs.Sizes.{offset-and-rest, rest-none, rest-all, rest-more}
+use Rattle.semantics.specs.Table.{fields, item, record-target, field-total, first-field, field-offset, field-count, size-of}
+use Rattle.semantics.proofs.Sizes.{offset-more}
 use Rattle.semantics.proofs.Lists.{sum-below-≤}
+use Rattle.layout.specs.Lists.{filled}
 use Rattle.layout.proofs.Laws.{sum-more}
-use Rattle.sizes.specs.Sizes.{Tails, Added, Sized}
+use Rattle.layout.proofs.Lists.{filled-none, filled-more, filled-length, filled-before, filled-at}
+use Rattle.sizes.specs.Sizes.{sizes-noted, offsets-noted}
 
--- Record r while its words are added up: the fields from f on are in the sum and are noted.
-pub record Adding (t : Words) (r f : ℕ) (tails₀ tails : Words) (sum : ℕ) : Type 0 where
-  pub so-far : sum ≡ words-from t r f
-  pub noted : Tails t tails r f
-  pub others : (k : ℕ) → k < first-field t r → word tails k ≡ word tails₀ k
-  pub room : length tails ≡ length tails₀
-
-module _ (t : Words) (r : ℕ) (tails₀ : Words) where
-  pub none-added : Adding t r (field-total t r) tails₀ tails₀ 0
-  none-added =
-      record { so-far = sym (rest-none t r); noted = record { together = λ i more less. absurd (omega arith) }; others = λ k less. refl; room = refl }
-
-  pub all-added : {tails : Words} {sum : ℕ} → Adding t r 0 tails₀ tails sum → Added t r tails₀ tails sum
-  all-added h = record { size = h .so-far ∙ rest-all t r; noted = h .noted; others = h .others; room = h .room }
-
-  -- One field more is in the sum, and is noted.
-  pub one-noted : {tails : Words} {sum : ℕ} (f left k v : ℕ) → left ≡ suc f → left ≤ field-total t r → k ≡ first-field t r + f → k < length tails → v ≡ words-from t r f
-      → Adding t r left tails₀ tails sum → Adding t r f tails₀ (set tails k v) v
-  one-noted {tails} f left k v next less at inside e h =
-      record {
-        so-far = e;
-        noted = record { together = λ i from below. go i from below (ℕ-discrete i f) (rw next at (h .noted)) };
-        others = λ j below. getD-set-other tails k j v 0 (λ q. omega arith) ∙ h .others j below;
-        room = simp length-set (h .room);
-      }
-    where
-      go : (i : ℕ) → f ≤ i → i < field-total t r → Dec (i ≡ f) → Tails t tails r (suc f) → word (set tails k v) (first-field t r + i) + field-offset t r i ≡ size-of t (record-target r)
-      go i from below (yes q) noted =
-          rw (q, ← at, getD-set-same tails k v 0 inside) (omega (arith, offset-and-rest t r f (omega arith)))
-      go i from below (no q) noted =
-          rw (getD-set-other tails k (first-field t r + i) v 0 (λ z. omega arith)) (noted .together i (omega arith) below)
-
--- The sum so far with one count more, that of the field before.
-pub one-added : (t : Words) (r f left start c : ℕ) {sum : ℕ} → left ≡ suc f → left ≤ field-total t r → start ≡ first-field t r → c ≡ item t fields (start + f) 1 → sum ≡ words-from t r left → sum + c ≡ words-from t r f
+-- The offset of the field after f, by the count that the code reads of f.
+pub next-offset : (t : Words) (r f next start c : ℕ) → next ≡ suc f → start ≡ first-field t r → c ≡ item t fields (start + f) 1 → field-offset t r next ≡ field-offset t r f + c
 unfolding field-count
-one-added t r f left start c next less first count before =
-    omega (arith, rest-more t r f (omega arith), rw next at before, rw first at count)
+next-offset t r f next start c e first count = rw (e, count, first) (offset-more t r f)
+
+pub none-noted : (t l : Words) → (sizes-noted t 0 l ≡ l) × (offsets-noted t 0 l ≡ l)
+unfolding sizes-noted offsets-noted
+none-noted t l = (filled-none l 0 _, refl)
+
+-- One record more.
+pub one-sized : (t l : Words) (n v : ℕ) {sizes : Words} → sizes ≡ sizes-noted t n l → v ≡ size-of t (record-target n) → set sizes n v ≡ sizes-noted t (n + 1) l
+unfolding sizes-noted
+one-sized t l n v e q = filled-more l 0 (λ r. size-of t (record-target r)) n n v e (omega arith) q
+
+pub one-offset : (t l : Words) (n : ℕ) {offsets offsets′ : Words} → offsets ≡ offsets-noted t n l
+    → offsets′ ≡ filled offsets (first-field t n) (field-total t n) (field-offset t n) → offsets′ ≡ offsets-noted t (n + 1) l
+unfolding offsets-noted
+one-offset t l n e q = rw (add-one n, ← e) q
+
+-- ---- what is looked up in the lists
+
+pub size-at : (t l : Words) (n r : ℕ) → n ≤ length l → r < n → word (sizes-noted t n l) r ≡ size-of t (record-target r)
+unfolding sizes-noted
+size-at t l n r room less = filled-at l 0 (λ r. size-of t (record-target r)) n r r (omega arith) (omega arith) less
+
+pub sizes-length : (t l : Words) (n : ℕ) → length (sizes-noted t n l) ≡ length l
+unfolding sizes-noted
+sizes-length t l n = filled-length l 0 (λ r. size-of t (record-target r)) n
+
+pub offsets-length : (t l : Words) (n : ℕ) → length (offsets-noted t n l) ≡ length l
+unfolding offsets-noted
+offsets-length t l zero = refl
+offsets-length t l (suc n) = filled-length (offsets-noted t n l) (first-field t n) (field-offset t n) (field-total t n) ∙ offsets-length t l n
 
 -- A record's fields stand before those of the next records.
 fields-before : (t : Words) (r n : ℕ) → r < n → first-field t r + field-total t r ≤ first-field t n
 unfolding first-field
 fields-before t r n h = omega (arith, sum-more (field-total t) r, sum-below-≤ (field-total t) (r + 1) n (omega arith))
 
-pub none-sized : {t sizes tails : Words} → Sized t sizes tails 0
-none-sized = record { size-is = λ r less. absurd (not-suc-le-zero less); noted = λ r less. absurd (not-suc-le-zero less) }
-
--- One record more.
-pub one-sized : {t sizes tails tails′ : Words} {n v : ℕ} → n < length sizes → Added t n tails tails′ v → Sized t sizes tails n → Sized t (set sizes n v) tails′ (n + 1)
-one-sized {t} {sizes} {tails} {tails′} {n} {v} inside added h =
-    record { size-is = λ r less. sized r less (ℕ-discrete r n); noted = λ r less. kept r less (ℕ-discrete r n) }
+pub offset-at : (t l : Words) (n r f : ℕ) → first-field t r + field-total t r ≤ length l → r < n → f < field-total t r → word (offsets-noted t n l) (first-field t r + f) ≡ field-offset t r f
+unfolding offsets-noted
+offset-at t l zero r f room less inside = absurd (not-suc-le-zero less)
+offset-at t l (suc n) r f room less inside = go (ℕ-discrete r n) (λ (below : r < n). offset-at t l n r f room below inside)
   where
-    sized : (r : ℕ) → r < n + 1 → Dec (r ≡ n) → word (set sizes n v) r ≡ size-of t (record-target r)
-    sized r less (yes q) = rw q (getD-set-same sizes n v 0 inside ∙ added .size)
-    sized r less (no q) = getD-set-other sizes n r v 0 q ∙ h .size-is r (omega arith)
-
-    kept : (r : ℕ) → r < n + 1 → Dec (r ≡ n) → Tails t tails′ r 0
-    kept r less (yes q) = rw q (added .noted)
-    kept r less (no q) =
-        record {
-          together = λ i from below.
-              let before : first-field t r + i < first-field t n = omega (arith, fields-before t r n (omega arith)) in
-              rw (added .others (first-field t r + i) before) (h .noted r (omega arith) .together i from below);
-        }
+    go : Dec (r ≡ n) → (r < n → word (offsets-noted t n l) (first-field t r + f) ≡ field-offset t r f)
+        → word (filled (offsets-noted t n l) (first-field t n) (field-total t n) (field-offset t n)) (first-field t r + f) ≡ field-offset t r f
+    go (yes q) below =
+        rw q (filled-at (offsets-noted t n l) (first-field t n) (field-offset t n) (field-total t n) f _ refl (omega (arith, offsets-length t l n, rw q at room)) (rw q at inside))
+    go (no q) below =
+        let before : r < n = omega arith in
+        filled-before (offsets-noted t n l) (first-field t n) (field-offset t n) (field-total t n) (first-field t r + f) (omega (arith, fields-before t r n before)) ∙ below before

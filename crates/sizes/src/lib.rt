@@ -1,12 +1,13 @@
-// The sizes of a table's records, for a run to look up: each is added up once.
+// The sizes of a table's records and the offsets of their fields, for a run to look up.
 ghost use mathlib.Core.Path.{_≡_};
 ghost use Prim.Native.Nat.{_<_, _^_};
 ghost use lib.ListN.{length};
-ghost use Rattle.semantics.specs.Table.{count, item, record-target, first-field, size-of};
+ghost use Rattle.semantics.specs.Table.{count, item, record-target, field-total, first-field, field-offset, size-of};
 ghost use Rattle.semantics.proofs.Passed.{Types-passed};
 ghost use Rattle.layout.specs.Layout.{Stands};
+ghost use Rattle.layout.specs.Lists.{filled};
 ghost use Rattle.layout.specs.Types.{Tabulated, Record-in};
-ghost use Rattle.sizes.specs.Sizes.{Added, Sized};
+ghost use Rattle.sizes.specs.Sizes.{sizes-noted, offsets-noted};
 use layout::Section;
 use layout::index;
 
@@ -19,11 +20,10 @@ fn words_of(t: &[u32], fields: Section, field: usize) -> u32
     t[at + 2 * field + 1]
 }
 
-// Adds up the words of record r in one number: straight from the table, last field first. Of each field the sum so far is noted, for the run:
-// with the field's offset it is the record's size. Nothing is read back here.
-fn add_up(t: &[u32], fields: Section, first: &[u32; 33], r: usize, tails: &mut [u32; 128]) -> u32
-    requires { ⌜ (Stands (now t) 1 fields) × (Record-in (now t) (now first) r) × (size-of (now t) (record-target r) < 2 ^ 32) × (length (now tails) ≡ 128) ⌝ }
-    ensures { λ sum. ⌜ Added (now (t .entry)) r (now (tails .entry)) (now (tails .exit)) sum ⌝ }
+// The size of record r: its fields' words added up in one number, straight from the table, last field first.
+fn add_up(t: &[u32], fields: Section, first: &[u32; 33], r: usize) -> u32
+    requires { ⌜ (Stands (now t) 1 fields) × (Record-in (now t) (now first) r) × (size-of (now t) (record-target r) < 2 ^ 32) ⌝ }
+    ensures { λ sum. ⌜ sum ≡ size-of (now (t .entry)) (record-target r) ⌝ }
 {
     let start = index(first[r]);
     let total = index(first[r + 1]) - start;
@@ -31,28 +31,43 @@ fn add_up(t: &[u32], fields: Section, first: &[u32; 33], r: usize, tails: &mut [
     let mut left = total;
     while 0 < left {
         let f = left - 1;
-        let field = start + f;
-        sum += words_of(t, fields, field);
-        tails[field] = sum;
+        sum += words_of(t, fields, start + f);
         left -= 1;
     }
     sum
 }
 
-// Notes the size of each record, and of each field the words of its record from it on.
+// Notes the offset of each field of record r, first field first: the words of those before it.
+fn note_offsets(t: &[u32], fields: Section, first: &[u32; 33], r: usize, offsets: &mut [u32; 128])
+    requires { ⌜ (Stands (now t) 1 fields) × (Record-in (now t) (now first) r) × (size-of (now t) (record-target r) < 2 ^ 32) × (length (now offsets) ≡ 128) ⌝ }
+    ensures { λ x. ⌜ now (offsets .exit) ≡ filled (now (offsets .entry)) (first-field (now (t .entry)) r) (field-total (now (t .entry)) r) (field-offset (now (t .entry)) r) ⌝ }
+{
+    let start = index(first[r]);
+    let total = index(first[r + 1]) - start;
+    let mut offset = 0;
+    for f in 0..total {
+        let field = start + f;
+        let next = offset + words_of(t, fields, field);
+        offsets[field] = offset;
+        offset = next;
+    }
+}
+
+// Notes the size of each record and the offset of each of its fields.
 pub fn note_sizes(
     t: &[u32],
     fields: Section,
     records: usize,
     first: &[u32; 33],
     sizes: &mut [u32; 32],
-    tails: &mut [u32; 128],
+    offsets: &mut [u32; 128],
 )
     requires { ⌜ (Stands (now t) 1 fields) × (Types-passed (now t)) × (records ≡ count (now t) 0) × (Tabulated (now first) (count (now t) 0) (first-field (now t))) ⌝ }
-    requires { ⌜ (length (now sizes) ≡ 32) × (length (now tails) ≡ 128) ⌝ }
-    ensures { λ r. ⌜ Sized (now (t .entry)) (now (sizes .exit)) (now (tails .exit)) (count (now (t .entry)) 0) ⌝ }
+    requires { ⌜ (length (now sizes) ≡ 32) × (length (now offsets) ≡ 128) ⌝ }
+    ensures { λ r. ⌜ (now (sizes .exit) ≡ sizes-noted (now (t .entry)) (count (now (t .entry)) 0) (now (sizes .entry))) × (now (offsets .exit) ≡ offsets-noted (now (t .entry)) (count (now (t .entry)) 0) (now (offsets .entry))) ⌝ }
 {
     for r in 0..records {
-        sizes[r] = add_up(t, fields, first, r, tails);
+        sizes[r] = add_up(t, fields, first, r);
+        note_offsets(t, fields, first, r, offsets);
     }
 }

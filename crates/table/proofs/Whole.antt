@@ -1,16 +1,19 @@
 -- Laws of the whole check, whose parts are gone through in turn.
-use Prim.Native.Nat.{ℕ}
+use Prim.Native.Nat.{ℕ, _+_, _<_}
 use mathlib.Core.Path.{_≡_, _∙_}
 use native.Mathlib.Omega.{arith}
-use Rattle.semantics.specs.Words.{Words}
-use Rattle.semantics.specs.Table.{records, fields, pointers, variables, nodes, commands, count}
+use lib.ListN.{length}
+use Rattle.semantics.specs.Words.{Words, word}
+use Rattle.semantics.specs.Table.{records, fields, pointers, variables, nodes, commands, count, record-target, field-total, first-field, field-offset, size-of}
 use Rattle.semantics.specs.Check.{Verdict, passes, refused, _or-else_, each, section-fault, words-over, record-fault, field-sum-fault, field-fault, pointer-fault, variable-fault, node-fault, command-fault, use-fault, uses, check}
-use Rattle.semantics.proofs.Passed.{or-else-passes, each-passes, Types-passed}
+use Rattle.semantics.proofs.Passed.{or-else-passes, each-passes, Types-passed, section-ok, fields-in}
 use Rattle.layout.specs.Layout.{layout-by, parsed}
 use Rattle.layout.specs.Types.{types-fault}
 use Rattle.layout.specs.declared.Parsed.{Parsed}
 use Rattle.layout.specs.declared.Parsed.the-variants.{Refused}
 use Rattle.layout.proofs.Laws.{or-else-pass, or-else-refuse}
+use Rattle.sizes.specs.Sizes.{sizes-noted, offsets-noted}
+use Rattle.sizes.proofs.Sums.{size-at, offset-at}
 use Rattle.nodes.proofs.Answers.{or-else-assoc}
 use Rattle.table.specs.Promises.{Nodes-noted, Commands-counted, All-counted, Left, Checks}
 
@@ -82,12 +85,22 @@ unfolding uses
 all-counted h k = record { all = λ i. omega (arith, k .more i, h .counted i) }
 
 -- A refusal promises nothing of the lists.
-pub refusal : {t first sizes tails notes : Words} {n p : ℕ} → check t ≡ refused n p → Checks t first sizes tails notes (Refused n p)
+pub refusal : {t first sizes offsets notes : Words} {n p : ℕ} → check t ≡ refused n p → Checks t first sizes offsets notes (Refused n p)
 refusal {t} e = record { answer = rw e; left = λ q. absurd (let z : _≡_ {A = ℕ} 0 1 = cc in omega arith) }
+
+-- What is noted of records has room.
+pub records-noted : {t sizes′ offsets′ : Words} (sizes offsets : Words) → Types-passed t → length sizes ≡ 32 → length offsets ≡ 128
+    → sizes′ ≡ sizes-noted t (count t records) sizes → offsets′ ≡ offsets-noted t (count t records) offsets
+    → ((r : ℕ) → r < count t records → word sizes′ r ≡ size-of t (record-target r))
+    × ((r f : ℕ) → r < count t records → f < field-total t r → word offsets′ (first-field t r + f) ≡ field-offset t r f)
+records-noted {t} sizes offsets ok size-length offset-length e q = (
+  λ r less. rw e (size-at t sizes (count t records) r (omega (arith, section-ok t 0 (ok .sections 0 (omega arith)) .limited)) less),
+  λ r f less inside. rw q (offset-at t offsets (count t records) r f (omega (arith, fields-in ok r less, section-ok t 1 (ok .sections 1 (omega arith)) .limited)) less inside),
+)
 
 pub parsed-layout : (t : Words) → sections t ≡ passes → parsed t ≡ layout-by t passes
 unfolding parsed
 parsed-layout t e = rw e
 
-pub passes-with : {t first sizes tails notes : Words} {r : Parsed} → check t ≡ passes → r ≡ layout-by t passes → Left t first sizes tails notes → Checks t first sizes tails notes r
+pub passes-with : {t first sizes offsets notes : Words} {r : Parsed} → check t ≡ passes → r ≡ layout-by t passes → Left t first sizes offsets notes → Checks t first sizes offsets notes r
 passes-with e q h = record { answer = rw e q; left = λ p. h }

@@ -5,12 +5,11 @@ use mathlib.Core.List.{[], _∷_}
 use lib.Dec.{eqb}
 use lib.ListN.{length}
 use Rattle.semantics.specs.Words.{Words, word, sum-below}
-use Rattle.semantics.specs.Table.{records, nodes, count, first-field, place, value, children, node-type}
+use Rattle.semantics.specs.Table.{records, nodes, count, record-target, field-total, first-field, field-offset, size-of, place, value, children, node-type}
 use Rattle.semantics.specs.Check.{Verdict, passes, _or-else_, require, is-child, occurrences, command-place, command-value, uses, check}
 use Rattle.layout.specs.Layout.{layout-by}
 use Rattle.layout.specs.Types.{Tabulated}
 use Rattle.layout.specs.declared.Parsed.{Parsed}
-use Rattle.sizes.specs.Sizes.{Sized}
 use Rattle.nodes.specs.Nodes.{note}
 use Rattle.nodes.specs.Promises.{Noted-to}
 
@@ -52,19 +51,20 @@ pub record All-counted (t used : Words) : Type 0 where
   pub all : (i : ℕ) → word used i ≡ uses t i
 
 -- Lists of the right lengths.
-pub record Lists-ready (first sizes tails notes : Words) : Type 0 where
+pub record Lists-ready (first sizes offsets notes : Words) : Type 0 where
   pub first-length : length first ≡ 33
   pub size-length : length sizes ≡ 32
-  pub tail-length : length tails ≡ 128
+  pub offset-length : length offsets ≡ 128
   pub notes-length : length notes ≡ 512
 
 -- What the check leaves where it passes.
-pub record Left (t first sizes tails notes : Words) : Type 0 where
+pub record Left (t first sizes offsets notes : Words) : Type 0 where
   pub noted : (n : ℕ) → n < count t nodes → word notes n ≡ note t n
   pub firsts : Tabulated first (count t records) (first-field t)
-  pub sized : Sized t sizes tails (count t records)
+  pub size-is : (r : ℕ) → r < count t records → word sizes r ≡ size-of t (record-target r)
+  pub offset-is : (r f : ℕ) → r < count t records → f < field-total t r → word offsets (first-field t r + f) ≡ field-offset t r f
 
 -- The answer of the whole check.
-pub record Checks (t first sizes tails notes : Words) (r : Parsed) : Type 0 where
+pub record Checks (t first sizes offsets notes : Words) (r : Parsed) : Type 0 where
   pub answer : r ≡ layout-by t (check t)
-  pub left : check t ≡ passes → Left t first sizes tails notes
+  pub left : check t ≡ passes → Left t first sizes offsets notes

@@ -139,17 +139,16 @@ fn check_uses(nodes: Section, uses: &[u32; 512]) -> Verdict
     Verdict::Passes
 }
 
-// The whole check. Where it passes: the layout; the note of each node; the first field and the size of each record, and the words of its
-// record from each field on.
+// The whole check. Where it passes: the layout; the note of each node; the first field and the size of each record; the offset of each field.
 pub fn check(
     t: &[u32],
     first: &mut [u32; 33],
     sizes: &mut [u32; 32],
-    tails: &mut [u32; 128],
+    offsets: &mut [u32; 128],
     notes: &mut [u32; 512],
 ) -> Parsed
-    requires { ⌜ Lists-ready (now first) (now sizes) (now tails) (now notes) ⌝ }
-    ensures { λ r. ⌜ Checks (now (t .entry)) (now (first .exit)) (now (sizes .exit)) (now (tails .exit)) (now (notes .exit)) r ⌝ }
+    requires { ⌜ Lists-ready (now first) (now sizes) (now offsets) (now notes) ⌝ }
+    ensures { λ r. ⌜ Checks (now (t .entry)) (now (first .exit)) (now (sizes .exit)) (now (offsets .exit)) (now (notes .exit)) r ⌝ }
 {
     let l = match Table::parse(t) {
         Parsed::Is(l) => l,
@@ -172,6 +171,6 @@ pub fn check(
         return Parsed::Refused(n, p);
     }
     let records = l.records;
-    note_sizes(t, l.fields, records.count, first, sizes, tails);
+    note_sizes(t, l.fields, records.count, first, sizes, offsets);
     Parsed::Is(l)
 }

@@ -13,7 +13,7 @@ use Rattle.layout.proofs.Types.{zeros}
 use Rattle.nodes.proofs.Answers.{verdict-refuses, verdict-passes}
 use Rattle.table.specs.Promises.{All-counted}
 use Rattle.table.proofs.Nodes.{few-uses}
-use Rattle.table.proofs.Whole.{sections, all-nodes, all-commands, all-uses, sections-refuse, types-refuse, nodes-refuse, commands-refuse, past-commands, types-passed, all-counted, refusal, parsed-layout, passes-with}
+use Rattle.table.proofs.Whole.{records-noted, sections, all-nodes, all-commands, all-uses, sections-refuse, types-refuse, nodes-refuse, commands-refuse, past-commands, types-passed, all-counted, refusal, parsed-layout, passes-with}
 use Rattle.table.proofs.check.Statement.{statement}
 use Rattle.table.proofs.check.Tie as tie
 
@@ -93,13 +93,17 @@ note-sizes-requires c κs =
     let l = laid (c .before .before .before .before .before .before .before .before .before .before .before .before .before .before .before .before .before .before .before .before .before .before .before .before .before .before .before .before) in
     let p = c .before .before .before .before .before .before .before .before .before .before .before .before .before .before .before .before .before .before .before .before .before .before .before .before .before .before .before .before .before .before .before .before .pre in
     let types = types-pass (c .before .before .before .before .before .before .before .before .before .before .before .before .before .before .before .before .before .before .before .before .before .before) in
-    ((l .fields-stand, types-passed _ (sections-pass (c .before .before .before .before .before .before .before .before .before .before .before .before .before .before .before .before .before .before .before .before .before .before .before .before .before .before .before .before)) types, l .records-stand .total, c .before .before .before .before .before .before .before .before .before .before .before .before .before .before .before .before .before .before .before .before .before .before .before .before .check-types .ensures .found types .firsts), (p .size-length, p .tail-length))
+    ((l .fields-stand, types-passed _ (sections-pass (c .before .before .before .before .before .before .before .before .before .before .before .before .before .before .before .before .before .before .before .before .before .before .before .before .before .before .before .before)) types, l .records-stand .total, c .before .before .before .before .before .before .before .before .before .before .before .before .before .before .before .before .before .before .before .before .before .before .before .before .check-types .ensures .found types .firsts), (p .size-length, p .offset-length))
 
 returns-6 : tie.Need-returns-6
 returns-6 c =
     let types = types-pass (c .before .before .before .before .before .before .before .before .before .before .before .before .before .before .before .before .before .before .before .before .before .before .before) in
+    let l = laid (c .before .before .before .before .before .before .before .before .before .before .before .before .before .before .before .before .before .before .before .before .before .before .before .before .before .before .before .before .before) in
+    let p = c .before .before .before .before .before .before .before .before .before .before .before .before .before .before .before .before .before .before .before .before .before .before .before .before .before .before .before .before .before .before .before .before .before .pre in
+    let ok = types-passed _ (sections-pass (c .before .before .before .before .before .before .before .before .before .before .before .before .before .before .before .before .before .before .before .before .before .before .before .before .before .before .before .before .before)) types in
+    let noted = records-noted _ _ ok (p .size-length) (p .offset-length) (c .note-sizes .ensures .0) (c .note-sizes .ensures .1) in
     passes-with (passed (c .before .before .before .before .before)) (sym (is (c .before .before .before .before .before .before .before .before .before .before .before .before .before .before .before .before .before .before .before .before .before .before .before .before .before .before .before .before .before)) ∙ parsed-layout _ (sections-pass (c .before .before .before .before .before .before .before .before .before .before .before .before .before .before .before .before .before .before .before .before .before .before .before .before .before .before .before .before .before)))
-    (record { noted = c .before .before .before .before .before .before .before .before .before .before .before .before .before .before .before .before .before .before .check-nodes .ensures .found (nodes-pass (c .before .before .before .before .before .before .before .before .before .before .before .before .before .before .before .before)) .noted-to .noted; firsts = c .before .before .before .before .before .before .before .before .before .before .before .before .before .before .before .before .before .before .before .before .before .before .before .before .before .check-types .ensures .found types .firsts; sized = c .note-sizes .ensures })
+    (record { noted = c .before .before .before .before .before .before .before .before .before .before .before .before .before .before .before .before .before .before .check-nodes .ensures .found (nodes-pass (c .before .before .before .before .before .before .before .before .before .before .before .before .before .before .before .before)) .noted-to .noted; firsts = c .before .before .before .before .before .before .before .before .before .before .before .before .before .before .before .before .before .before .before .before .before .before .before .before .before .check-types .ensures .found types .firsts; size-is = noted .0; offset-is = noted .1 })
 
 pub check-spec : {M : Type 1} → statement M
 check-spec =
