@@ -10,7 +10,7 @@ entry-requires : tie.Need-entry-requires
 entry-requires c κs =
     let p = c .before .pre in
     let h = record-inside (p .is-field) (c .record .ensures (p .table) (p .is-field)) in
-    (omega arith, omega arith, h .1)
+    omega arith
 
 add-result : tie.Need-add-result
 add-result c =
