@@ -56,8 +56,8 @@ kind-range k =
     go false false false false false false false false false false e₁ e₂ e₃ e₄ e₅ e₆ e₇ e₈ e₉ e₁₀ = tt
 
 -- A tree that is a place comes of a place's kind, one that is a value of a value's.
-module _ {vars : ℕ} (t : Words) (n a b : ℕ) (trees : List Tree) where
-  place-sort : (k : Kind) → Place-ok vars (as-place (tree-by-kind t n k a b trees)) → sort-of k ≡ Table.place
+module _ {vars : ℕ} (t : Words) (n a b : ℕ) (tree : ℕ → Tree) where
+  place-sort : (k : Kind) → Place-ok vars (as-place (tree-by-kind t n k a b tree)) → sort-of k ≡ Table.place
   place-sort variable h = refl
   place-sort deref h = refl
   place-sort field h = refl
@@ -70,7 +70,7 @@ module _ {vars : ℕ} (t : Words) (n a b : ℕ) (trees : List Tree) where
   place-sort malloc h = elim h [ ]
   place-sort unknown h = elim h [ ]
 
-  value-sort : (k : Kind) → Value-ok vars (as-value (tree-by-kind t n k a b trees)) → sort-of k ≡ Table.value
+  value-sort : (k : Kind) → Value-ok vars (as-value (tree-by-kind t n k a b tree)) → sort-of k ≡ Table.value
   value-sort variable h = elim h [ ]
   value-sort deref h = elim h [ ]
   value-sort field h = elim h [ ]
@@ -85,15 +85,15 @@ module _ {vars : ℕ} (t : Words) (n a b : ℕ) (trees : List Tree) where
 
 pub place-kind : {vars : ℕ} (t : Words) (n : ℕ) → Place-ok vars (place-of t n) → (1 ≤ item t nodes n 0) × (item t nodes n 0 ≤ 3)
 unfolding place-of tree-of tree-rule node-kind
-place-kind t n h = rw (place-sort t n _ _ (trees-below t n) (kind-of (item t nodes n 0)) h) at (kind-range (item t nodes n 0))
+place-kind t n h = rw (place-sort t n _ _ (λ x. getD (trees-below t n) x senseless) (kind-of (item t nodes n 0)) h) at (kind-range (item t nodes n 0))
 
 pub value-kind : {vars : ℕ} (t : Words) (n : ℕ) → Value-ok vars (value-of t n) → (4 ≤ item t nodes n 0) × (item t nodes n 0 ≤ 10)
 unfolding value-of tree-of tree-rule node-kind
-value-kind t n h = rw (value-sort t n _ _ (trees-below t n) (kind-of (item t nodes n 0)) h) at (kind-range (item t nodes n 0))
+value-kind t n h = rw (value-sort t n _ _ (λ x. getD (trees-below t n) x senseless) (kind-of (item t nodes n 0)) h) at (kind-range (item t nodes n 0))
 
 pub value-node : {vars : ℕ} (t : Words) (n : ℕ) → Value-ok vars (value-of t n) → sort-of (node-kind t n) ≡ Table.value
 unfolding value-of tree-of tree-rule
-value-node t n h = value-sort t n _ _ (trees-below t n) (node-kind t n) h
+value-node t n h = value-sort t n _ _ (λ x. getD (trees-below t n) x senseless) (node-kind t n) h
 
 pub field-kind : (t : Words) (n : ℕ) → item t nodes n 0 ≡ 3 → node-kind t n ≡ field
 unfolding node-kind kind-of

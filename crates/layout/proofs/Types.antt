@@ -1,20 +1,20 @@
 -- Laws of the checks of sections 1 to 4, in the order of their functions.
 use Prim.Native.Nat.{ℕ, zero, suc, _+_, _*_, _-_, _≤_, _<_}
-use mathlib.Core.Bool.{Bool, true, false, _&&_, _||_}
+use mathlib.Core.Bool.{Bool, true, false, not, _&&_, _||_}
 use mathlib.Core.Path.{_≡_, refl, sym, _∙_, ap}
 use mathlib.Core.Logic.{_⊎_, inl, inr, ⊎-elim}
 use native.Mathlib.Omega.{arith}
 use native.Mathlib.Numerals.{add-one}
 use native.Mathlib.Decide.{ℕ-discrete}
 use borrow.Author.Tests.{le-ltb, lt-ltb, le-leb, lt-leb, ltb-true, ltb-false, leb-true, eq-eqb, ne-eqb}
-use lib.Dec.{leb, ltb}
+use lib.Dec.{leb, ltb, eqb}
 use lib.ListN.{length, set, replicate}
 use lib.Seq.{getD-set-same, getD-set-other}
-use Rattle.semantics.specs.Words.{Words, word, if_then_else_, least-below}
+use Rattle.semantics.specs.Words.{Words, word, if_then_else_, seen-before, least-below}
 use Rattle.semantics.specs.Table.{records, fields, pointers, variables, count-place, count, item, known-type, known-target, entry-type, entry-below, field-total, first-field}
 use Rattle.semantics.specs.Check.{Verdict, passes, refused, _or-else_, require, each, record-fault, field-sum-fault, field-fault, pointer-fault, variable-fault}
 use Rattle.semantics.proofs.Tests.{and-true, or-true}
-use Rattle.semantics.proofs.Lists.{sum-below-≤}
+use Rattle.semantics.proofs.Lists.{sum-below-≤, any-least}
 use Rattle.semantics.proofs.Passed.{Types-passed, section-ok, fields-in}
 use Rattle.layout.specs.Layout.{Stands}
 use Rattle.layout.specs.Types.{types-fault, slot, mark-below, Tabulated, Record-in, Marks}
@@ -174,15 +174,16 @@ module _ {t : Words} {l : Section} (h : Stands t 2 l) (i : ℕ) where
       rw (place-at h i 0 (l .at + i) (omega arith), target-at) (or-else-refuse _ _ (require-refuses _ 5 (l .at + i) (sym k)))
 
   pointer-seen : true ≡ known-target t (word t (l .at + i))
-      → pointer-fault t i ≡ require (leb i (entry-below t i (word t (l .at + i)))) 6 (l .at + i)
-  unfolding pointer-fault
-  pointer-seen k = rw (place-at h i 0 (l .at + i) (omega arith), target-at) (or-else-pass _ _ (require-holds _ 5 _ (sym k)))
+      → pointer-fault t i ≡ require (not (ltb (entry-below t i (word t (l .at + i))) i)) 6 (l .at + i)
+  unfolding pointer-fault seen-before entry-below
+  pointer-seen k =
+      rw (any-least i (λ j. eqb (item t pointers j 0) (item t pointers i 0)), place-at h i 0 (l .at + i) (omega arith), target-at) (or-else-pass _ _ (require-holds _ 5 _ (sym k)))
 
   pub pointer-again : true ≡ known-target t (word t (l .at + i)) → (mark-below t i (word t (l .at + i)) ≡ 0 → ⊥) → pointer-fault t i ≡ refused 6 (l .at + i)
-  pointer-again k m = pointer-seen k ∙ require-refuses _ 6 (l .at + i) (lt-leb i (entry-below t i (word t (l .at + i))) (mark-some t i _ m))
+  pointer-again k m = pointer-seen k ∙ require-refuses _ 6 (l .at + i) (ap not (lt-ltb (entry-below t i (word t (l .at + i))) i (mark-some t i _ m)))
 
   pub pointer-new : true ≡ known-target t (word t (l .at + i)) → mark-below t i (word t (l .at + i)) ≡ 0 → pointer-fault t i ≡ passes
-  pointer-new k m = pointer-seen k ∙ require-holds _ 6 (l .at + i) (le-leb i (entry-below t i (word t (l .at + i))) (mark-none t i _ m))
+  pointer-new k m = pointer-seen k ∙ require-holds _ 6 (l .at + i) (ap not (le-ltb (entry-below t i (word t (l .at + i))) i (mark-none t i _ m)))
 
 -- ---- where pointers are noted
 

@@ -2,7 +2,7 @@
 use Prim.Native.Nat.{ℕ, _+_}
 use mathlib.Core.Bool.{not}
 use lib.Dec.{ltb}
-use Rattle.semantics.specs.Words.{Words}
+use Rattle.semantics.specs.Words.{Words, word}
 use Rattle.semantics.specs.Table.{nodes, item-place, field-total, field-type, Kind, Sort, place, value, neither, sort-of, operand-a, operand-b, node-kind, type-by-kind, types-below, node-type}
 use Rattle.semantics.specs.Check.{Verdict, passes, refused, _or-else_, require, same-sort, operand-fault, types-fit}
 use Rattle.nodes.specs.declared.Typed.{Typed}
@@ -25,7 +25,7 @@ typed-by (refused n p) ty = Refused n p
 
 -- The type of node n, if it is of this kind with these two other words.
 abbrev pub type-found : Words → ℕ → Kind → ℕ → ℕ → ℕ
-type-found t n k a b = type-by-kind t k a b (types-below t n)
+type-found t n k a b = type-by-kind t k a b (word (types-below t n))
 
 -- A node's check after its kind: "a, b (7 or 5), then 8".
 unfoldable pub kind-fault : Words → ℕ → Kind → ℕ → ℕ → Verdict

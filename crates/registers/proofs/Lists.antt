@@ -1,17 +1,17 @@
 -- Refusals 13, 14 and 15, from what the loops over a register list have found.
 use Prim.Native.Nat.{ℕ, _+_, _≤_, _<_}
-use mathlib.Core.Bool.{Bool, true, false, _&&_}
+use mathlib.Core.Bool.{Bool, true, false, _&&_, _||_}
 use mathlib.Core.Path.{_≡_, refl, sym, ap, _∙_}
 use native.Mathlib.Omega.{arith}
 use native.Mathlib.Decide.{ℕ-discrete}
 use native.Mathlib.Numerals.{add-one}
 use borrow.Author.Tests.{ltb-true, eq-eqb, ne-eqb, le-leb, lt-leb, lt-ltb, le-ltb}
-use lib.Dec.{leb, ltb}
+use lib.Dec.{leb, ltb, eqb}
 use lib.ListN.{length, set, replicate, length-set, getD-replicate, List·getD-eq-default}
 use lib.Seq.{getD-set-same, getD-set-other}
-use Rattle.semantics.specs.Words.{Words, word, sum-below, least-below}
+use Rattle.semantics.specs.Words.{Words, word, sum-below, any-below, seen-before}
 use Rattle.semantics.specs.Table.{variables, count, item, is-pointer}
-use Rattle.semantics.specs.Registers.{register-count, register-place, register-variable, register-length, naming-below, register-start}
+use Rattle.semantics.specs.Registers.{register-count, register-place, register-variable, register-length, register-start}
 use Rattle.semantics.specs.Check.{passes, refused, require, each, extent-fault, names-pointer, name-fault, room-fault, registers-fault}
 use Rattle.semantics.proofs.Tests.{and-true}
 use Rattle.semantics.proofs.Registers.{Whole, places-rise}
@@ -81,28 +81,26 @@ and-false : (a : Bool) → a && false ≡ false
 and-false true = refl
 and-false false = refl
 
--- One register more: it doesn't name v, it is the first to do so, or an earlier one was.
-module _ (l : Words) (v j : ℕ) where
-  naming-more : naming-below l j v ≡ j → (register-variable l j ≡ v → ⊥) → naming-below l (j + 1) v ≡ j + 1
-  unfolding naming-below least-below
-  naming-more none other = rw (add-one j, none, le-ltb j j (omega arith), ne-eqb (register-variable l j) v other)
+or-right : (a : Bool) → a || true ≡ true
+or-right true = refl
+or-right false = refl
 
-  naming-here : naming-below l j v ≡ j → register-variable l j ≡ v → naming-below l (j + 1) v < j + 1
-  unfolding naming-below least-below
-  naming-here none e = rw (add-one j, none, le-ltb j j (omega arith), eq-eqb (register-variable l j) v e) (omega arith)
+-- Whether a register below i names v.
+abbrev names : Words → ℕ → ℕ → Bool
+names l i v = any-below i (λ j. eqb (register-variable l j) v)
 
-  naming-stays : naming-below l j v < j → naming-below l (j + 1) v < j + 1
-  unfolding naming-below least-below
-  naming-stays some = rw (add-one j, lt-ltb (naming-below l j v) j some) (omega arith)
+names-more : (l : Words) (i v : ℕ) → names l (i + 1) v ≡ names l i v || eqb (register-variable l i) v
+unfolding any-below
+names-more l i v = rw (add-one i) refl
 
 -- A list of marks, 0 for each variable that no register below i names.
 pub record Marked (l marks : Words) (i : ℕ) : Type 0 where
   pub room : length marks ≡ 64
-  pub free : (v : ℕ) → v < 64 → word marks v ≡ 0 → naming-below l i v ≡ i
-  pub taken : (v : ℕ) → v < 64 → (word marks v ≡ 0 → ⊥) → naming-below l i v < i
+  pub free : (v : ℕ) → v < 64 → word marks v ≡ 0 → names l i v ≡ false
+  pub taken : (v : ℕ) → v < 64 → (word marks v ≡ 0 → ⊥) → names l i v ≡ true
 
 pub none-marked : (l : Words) → Marked l (replicate 64 0) 0
-unfolding naming-below least-below
+unfolding any-below
 none-marked l = record { room = refl; free = λ v h e. refl; taken = λ v h e. absurd (e (getD-replicate 64 v 0 0 h)) }
 
 pub one-marked : {l marks : Words} {i w : ℕ} → Marked l marks i → w ≡ register-variable l i → w < 64 → word marks w ≡ 0 → Marked l (set marks w 1) (i + 1)
@@ -112,13 +110,14 @@ one-marked {l} {marks} {i} {w} h here known unmarked =
     marked : word (set marks w 1) w ≡ 1
     marked = getD-set-same marks w 1 0 (omega (arith, h .room))
 
-    free : (v : ℕ) → v < 64 → word (set marks w 1) v ≡ 0 → Dec (v ≡ w) → naming-below l (i + 1) v ≡ i + 1
+    free : (v : ℕ) → v < 64 → word (set marks w 1) v ≡ 0 → Dec (v ≡ w) → names l (i + 1) v ≡ false
     free v less e (yes q) = absurd (omega (arith, rw q at e, marked))
-    free v less e (no q) = naming-more l v i (h .free v less (sym (getD-set-other marks w v 1 0 q) ∙ e)) (λ z. q (sym z ∙ sym here))
+    free v less e (no q) =
+        rw (names-more l i v, h .free v less (sym (getD-set-other marks w v 1 0 q) ∙ e), ne-eqb (register-variable l i) v (λ z. q (sym z ∙ sym here))) refl
 
-    taken : (v : ℕ) → v < 64 → (word (set marks w 1) v ≡ 0 → ⊥) → Dec (v ≡ w) → naming-below l (i + 1) v < i + 1
-    taken v less e (yes q) = naming-here l v i (rw (sym q) at (h .free w known unmarked)) (sym here ∙ sym q)
-    taken v less e (no q) = naming-stays l v i (h .taken v less (λ z. e (getD-set-other marks w v 1 0 q ∙ z)))
+    taken : (v : ℕ) → v < 64 → (word (set marks w 1) v ≡ 0 → ⊥) → Dec (v ≡ w) → names l (i + 1) v ≡ true
+    taken v less e (yes q) = rw (names-more l i v, eq-eqb (register-variable l i) v (sym here ∙ sym q)) (or-right (names l i v))
+    taken v less e (no q) = rw (names-more l i v, h .taken v less (λ z. e (getD-set-other marks w v 1 0 q ∙ z))) refl
 
 -- A variable that is known.
 module _ {t : Words} {s : Section} (h : Stands t 3 s) (v : ℕ) where
@@ -143,12 +142,12 @@ module _ (t l : Words) (i : ℕ) {p v : ℕ} (at : p ≡ register-place l i) (is
 
   module _ {marks : Words} (m : Marked l marks i) (known : v < 64) where
     pub named-again : (word marks v ≡ 0 → ⊥) → name-fault t l i ≡ refused 14 p
-    unfolding name-fault
-    named-again e = rw (← at, ← is, lt-leb i (naming-below l i v) (m .taken v known e)) (require-refuses _ 14 p (and-false (names-pointer t v)))
+    unfolding name-fault seen-before
+    named-again e = rw (← at, ← is, m .taken v known e) (require-refuses _ 14 p (and-false (names-pointer t v)))
 
     pub name-passes : a ≡ true → word marks v ≡ 0 → name-fault t l i ≡ passes
-    unfolding name-fault
-    name-passes e free = rw (← at, ← is, ← ea, e, le-leb i (naming-below l i v) (omega (arith, m .free v known free))) (require-holds _ 14 p refl)
+    unfolding name-fault seen-before
+    name-passes e free = rw (← at, ← is, ← ea, e, m .free v known free) (require-holds _ 14 p refl)
 
 -- ---- 15
 

@@ -1,9 +1,9 @@
 -- The tables of specs/Examples.antt compute to the answers that document 01 prints, and that requests 1 and 2 ask for.
 use mathlib.Core.Path.{_≡_, refl}
 use mathlib.Core.List.{map}
-use Rattle.semantics.specs.Words.{zeroed, sum-below, least-below, grow}
+use Rattle.semantics.specs.Words.{zeroed, sum-below, any-below, seen-before, least-below, grow}
 use Rattle.semantics.specs.Table.{count-place, count, item-place, item, is-pointer, known-type, known-target, target, points-to-type, points-to-record, pointed-record, entry-below, field-total, first-field, field-type, field-count, field-offset, size-of, kind-of, node-kind, children, type-rule, types-below, node-type}
-use Rattle.semantics.specs.Registers.{register-place, naming-below, register-start}
+use Rattle.semantics.specs.Registers.{register-place, register-start}
 use Rattle.semantics.specs.Check.{_or-else_, require, each, section-fault, words-over, record-fault, field-sum-fault, field-fault, pointer-fault, variable-fault, is-child, deeper, node-fault, command-fault, uses, use-fault, check, lengths-fit, input-fits, input-fault, arguments-fault, extent-fault, names-pointer, name-fault, room-fault, registers-fault, call-fault}
 use Rattle.semantics.specs.Syntax.{step-of, tree-rule, trees-below, tree-of, place-of, value-of}
 use Rattle.semantics.specs.Rules.{in-bounds, checked, deref-step, field-step, touchable, read-step, malloc-step, place-at, assign-step, assign}
@@ -12,7 +12,7 @@ use Rattle.semantics.specs.Examples.{Example, observed, refusals, runs, 
 
 -- To unfold this is to unfold every definition that a call comes down to.
 computed : Example → Example
-unfolding observed zeroed sum-below least-below grow count-place count item-place item is-pointer known-type known-target target points-to-type points-to-record pointed-record entry-below field-total first-field field-type field-count field-offset size-of kind-of node-kind children type-rule types-below node-type _or-else_ require each section-fault words-over record-fault field-sum-fault field-fault pointer-fault variable-fault is-child deeper node-fault command-fault uses use-fault check lengths-fit input-fits input-fault arguments-fault register-place naming-below register-start extent-fault names-pointer name-fault room-fault registers-fault call-fault step-of tree-rule trees-below tree-of place-of value-of in-bounds checked deref-step field-step touchable read-step malloc-step place-at assign-step assign cleared registers-below begin command commands-below run call
+unfolding observed zeroed sum-below any-below seen-before least-below grow count-place count item-place item is-pointer known-type known-target target points-to-type points-to-record pointed-record entry-below field-total first-field field-type field-count field-offset size-of kind-of node-kind children type-rule types-below node-type _or-else_ require each section-fault words-over record-fault field-sum-fault field-fault pointer-fault variable-fault is-child deeper node-fault command-fault uses use-fault check lengths-fit input-fits input-fault arguments-fault register-place register-start extent-fault names-pointer name-fault room-fault registers-fault call-fault step-of tree-rule trees-below tree-of place-of value-of in-bounds checked deref-step field-step touchable read-step malloc-step place-at assign-step assign cleared registers-below begin command commands-below run call
 computed x = observed x
 
 pub refusals-are-given : map observed refusals ≡ refusals

@@ -9,5 +9,6 @@ pub mod Invariant
 pub mod Steps
 pub mod Registers
 pub mod Trees
+pub mod Equations
 pub mod Safety
 pub mod Depth

@@ -1,13 +1,16 @@
 -- Laws of the definitions of specs/Words.antt.
 use Prim.Native.Nat.{ℕ, zero, suc, _+_, _*_, _≤_, _<_}
-use mathlib.Core.Path.{_≡_, refl, ap, _∙_}
+use mathlib.Core.Bool.{Bool, true, false, _||_, false≢true}
+use mathlib.Core.Path.{_≡_, refl, sym, ap, _∙_}
 use mathlib.Core.List.{List, [], _∷_, _++_}
 use native.Mathlib.Omega.{arith}
 use native.Mathlib.Nat.{not-suc-le-zero}
 use native.Mathlib.Decide.{ℕ-discrete}
+use borrow.Author.Tests.{ltb-true, lt-ltb, le-ltb}
+use lib.Dec.{ltb}
 use lib.ListN.{length, getD, replicate, set, length-append, List·getD-append}
 use lib.Seq.{getD-at, set-getD, sets}
-use Rattle.semantics.specs.Words.{Words, word, zeroed, sum-below, grow}
+use Rattle.semantics.specs.Words.{Words, word, zeroed, if_then_else_, sum-below, any-below, least-below, grow}
 
 module _ {A : Type 0} (f : ℕ → List A → A) where
   pub length-grow : (n : ℕ) → length (grow f n) ≡ n
@@ -59,6 +62,19 @@ pub sum-below-most : (f : ℕ → ℕ) (c n : ℕ) → ((i : ℕ) → i < n → 
 unfolding sum-below
 sum-below-most f c zero h = omega arith
 sum-below-most f c (suc n) h = omega (arith, sum-below-most f c n (λ i less. h i (omega arith)), h n (omega arith))
+
+-- Some number below n has the property exactly where the least such number is below n.
+pub any-least : (n : ℕ) (p : ℕ → Bool) → any-below n p ≡ ltb (least-below n p) n
+unfolding any-below least-below
+any-least zero p = refl
+any-least (suc n) p = go (any-below n p) (ltb (least-below n p) n) refl (p n) (any-least n p)
+  where
+    go : (a b : Bool) → ltb (least-below n p) n ≡ b → (c : Bool) → a ≡ b → a || c ≡ ltb (if b then least-below n p else if c then n else suc n) (suc n)
+    go true true q c e = sym (lt-ltb (least-below n p) (suc n) (omega (arith, ltb-true (least-below n p) n q)))
+    go false false q true e = sym (lt-ltb n (suc n) (omega arith))
+    go false false q false e = sym (le-ltb (suc n) (suc n) (omega arith))
+    go true false q c e = absurd (false≢true (sym e))
+    go false true q c e = absurd (false≢true e)
 
 -- Clearing clear words changes nothing.
 pub zeroed-clear : (l : Words) (from n : ℕ) → ((w : ℕ) → from ≤ w → word l w ≡ 0) → zeroed l from n ≡ l

@@ -1,5 +1,6 @@
 -- What a register list that isn't refused tells, and that its registers keep the invariant.
 use Prim.Native.Nat.{ℕ, zero, suc, _+_, _≤_, _<_}
+use mathlib.Core.Bool.{not}
 use mathlib.Core.Path.{_≡_, refl, sym, ap, _∙_}
 use mathlib.Core.List.{[], _∷_}
 use native.Mathlib.Omega.{arith}
@@ -7,9 +8,9 @@ use borrow.Author.Tests.{ltb-true, leb-true}
 use lib.Dec.{leb}
 use lib.ListN.{length, take, drop, set}
 use lib.Seq.{sets, length-sets, getD-set-other}
-use Rattle.semantics.specs.Words.{Words, word, zeroed, sum-below}
+use Rattle.semantics.specs.Words.{Words, word, zeroed, sum-below, seen-before}
 use Rattle.semantics.specs.Table.{variables, count, is-pointer, item}
-use Rattle.semantics.specs.Registers.{register-count, register-place, register-variable, register-length, register-words, naming-below, register-start}
+use Rattle.semantics.specs.Registers.{register-count, register-place, register-variable, register-length, register-words, register-start}
 use Rattle.semantics.specs.Check.{passes, require, each, extent-fault, names-pointer, name-fault, room-fault, registers-fault}
 use Rattle.semantics.specs.Rules.{unbounded, block-pointer, State}
 use Rattle.semantics.specs.Run.{with-register, registers-below}
@@ -60,7 +61,7 @@ listed t l len e =
       extent = whole l (p0 .0);
       named = λ i h.
           let v = register-variable l i in
-          let k = and-true (names-pointer t v) (leb i (naming-below l i v)) (require-passes _ 14 (register-place l i) (each-passes (register-count l) (name-fault t l) (p1 .0) i h)) in
+          let k = and-true (names-pointer t v) (not (seen-before (register-variable l) i)) (require-passes _ 14 (register-place l i) (each-passes (register-count l) (name-fault t l) (p1 .0) i h)) in
           ltb-true v (count t variables) (and-true _ (is-pointer (item t variables v 0)) (k .0) .0);
       room = λ i h.
           leb-true (register-start (1 + count t variables) l (suc i)) len

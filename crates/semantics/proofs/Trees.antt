@@ -71,7 +71,7 @@ module _ {t : Words} (ok : Types-passed t) (n : ℕ) (below : (i : ℕ) → i < 
   child-type : (s : Sort) (x p : ℕ) → require (is-child t s n x) 7 p ≡ passes → word (types-below t n) x ≡ node-type t x
   child-type s x p e = types-at t n x (is-child-true t s n x (require-passes (is-child t s n x) 7 p e) .0)
 
-  known-by-kind : (k : Kind) (a b : ℕ) → Node-ok t n k a b → known-type t (type-by-kind t k a b (types-below t n)) ≡ true
+  known-by-kind : (k : Kind) (a b : ℕ) → Node-ok t n k a b → known-type t (type-by-kind t k a b (word (types-below t n))) ≡ true
   unfolding field-type
   known-by-kind variable a b g = variable-known ok a (ltb-true a _ (require-passes (ltb a (count t variables)) _ _ (g .a-ok)))
   known-by-kind deref a b g = rw (child-type value a _ (g .a-ok)) (deref-known ok _ (child-known value a _ (g .a-ok)) (g .fit))
@@ -128,7 +128,7 @@ module _ {t : Words} (ok : Passed t) (n : ℕ) (inside : n < count t nodes)
   child-place : (x p : ℕ) → require (is-child t place n x) 7 p ≡ passes → Place-ok (count t variables) (as-place (getD (trees-below t n) x senseless))
   child-place x p e = as-place-ok (child-tree place x p e)
 
-  tree-by-kind-ok : (k : Kind) (a b : ℕ) → Node-ok t n k a b → Tree-ok (count t variables) (sort-of k) (tree-by-kind t n k a b (trees-below t n))
+  tree-by-kind-ok : (k : Kind) (a b : ℕ) → Node-ok t n k a b → Tree-ok (count t variables) (sort-of k) (tree-by-kind t n k a b (λ x. getD (trees-below t n) x senseless))
   unfolding field-count
   tree-by-kind-ok variable a b g = place-tree (variable-ok (ltb-true a _ (require-passes (ltb a (count t variables)) _ _ (g .a-ok))))
   tree-by-kind-ok deref a b g = place-tree (deref-ok (child-value a _ (g .a-ok)))

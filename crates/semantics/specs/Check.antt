@@ -4,9 +4,9 @@ use mathlib.Core.Bool.{Bool, true, false, not, _&&_, _||_}
 use mathlib.Core.List.{[], _∷_}
 use lib.ListN.{length}
 use lib.Dec.{leb, ltb, eqb}
-use Rattle.semantics.specs.Words.{Words, word, sum-below, if_then_else_}
+use Rattle.semantics.specs.Words.{Words, word, sum-below, seen-before, if_then_else_}
 use Rattle.semantics.specs.Table.{records, fields, pointers, variables, nodes, commands, limits, count-place, count, item-place, item, int, is-pointer, known-type, known-target, points-to-type, points-to-record, pointed-record, entry-below, field-total, first-field, Kind, variable, deref, field, constant, sum, read, address, cast, size, malloc, unknown, Sort, place, value, neither, sort-of, Operand, unused, variable-number, field-number, any-word, type-word, target-word, place-child, value-child, operand-a, operand-b, node-kind, node-a, node-b, children, node-type}
-use Rattle.semantics.specs.Registers.{register-count, register-place, register-variable, naming-below, register-start}
+use Rattle.semantics.specs.Registers.{register-count, register-place, register-variable, register-start}
 
 pub data Verdict : Type 0 where
   passes : Verdict
@@ -57,7 +57,7 @@ field-fault t f =
 unfoldable pub pointer-fault : Words → ℕ → Verdict
 pointer-fault t i =
     require (known-target t (item t pointers i 0)) 5 (item-place t pointers i 0)
-    or-else require (leb i (entry-below t i (item t pointers i 0))) 6 (item-place t pointers i 0)
+    or-else require (not (seen-before (λ j. item t pointers j 0) i)) 6 (item-place t pointers i 0)
 
 unfoldable pub variable-fault : Words → ℕ → Verdict
 variable-fault t i = require (known-type t (item t variables i 0)) 5 (item-place t variables i 0)
@@ -194,7 +194,7 @@ names-pointer t v = ltb v (count t variables) && is-pointer (item t variables v 
 
 unfoldable pub name-fault : Words → Words → ℕ → Verdict
 name-fault t l i =
-    require (names-pointer t (register-variable l i) && leb i (naming-below l i (register-variable l i))) 14 (register-place l i)
+    require (names-pointer t (register-variable l i) && not (seen-before (register-variable l) i)) 14 (register-place l i)
 
 -- 15: "the registers don't fit in memory"; its place is "the length word of the first register that doesn't fit".
 unfoldable pub room-fault : ℕ → Words → ℕ → ℕ → Verdict

@@ -1,9 +1,8 @@
 -- Request 1, "Registers handed in": the list of words that a run also takes, "a count of registers, at most 16, then for each a variable
 -- number, a length n, and n words". As with a table, a word past the list's end counts as 0, and a list that is cut short is refused.
 use Prim.Native.Nat.{ℕ, zero, suc, _+_}
-use lib.Dec.{eqb}
 use lib.ListN.{take, drop}
-use Rattle.semantics.specs.Words.{Words, word, sum-below, least-below}
+use Rattle.semantics.specs.Words.{Words, word, sum-below}
 
 abbrev pub register-count : Words → ℕ
 register-count l = word l 0
@@ -21,10 +20,6 @@ register-length l i = word l (register-place l i + 1)
 
 abbrev pub register-words : Words → ℕ → Words
 register-words l i = take (register-length l i) (drop (register-place l i + 2) l)
-
--- The first register below n that names variable v, or n if there is none.
-unfoldable pub naming-below : Words → ℕ → ℕ → ℕ
-naming-below l n v = least-below n (λ i. eqb (register-variable l i) v)
 
 -- "The registers become blocks after the variables, in order": the first word of register i where the first register's is `first`; also the
 -- first word after the register before it.

@@ -49,26 +49,24 @@ as-value senseless = NoValue
 unfoldable pub step-of : Words → ℕ → ℕ
 step-of t ty = if points-to-record t ty then size-of t (target t ty) else 1
 
--- The tree of node n of this kind with these two other words, from the trees of the nodes before it.
--- A child that isn't before it has no tree there.
-abbrev pub tree-by-kind : Words → ℕ → Kind → ℕ → ℕ → List Tree → Tree
-tree-by-kind t n variable a b trees = place (Variable n a)
-tree-by-kind t n deref a b trees = place (Deref n (as-value (getD trees a senseless)))
-tree-by-kind t n field a b trees =
-    place (Field n (field-offset t (pointed-record t (node-type t a)) b) (field-count t (pointed-record t (node-type t a)) b) (as-value (getD trees a senseless)))
-tree-by-kind t n constant a b trees = value (Number n a)
-tree-by-kind t n sum a b trees =
-    value (Sum n (step-of t (node-type t a)) (as-value (getD trees a senseless)) (as-value (getD trees b senseless)))
-tree-by-kind t n read a b trees = value (Read n (is-pointer (node-type t n)) (as-place (getD trees a senseless)))
-tree-by-kind t n address a b trees = value (Address n (as-place (getD trees a senseless)))
-tree-by-kind t n cast a b trees =
-    value (Cast n (is-pointer (node-type t a) && is-pointer b) (as-value (getD trees a senseless)))
-tree-by-kind t n size a b trees = value (Number n (size-of t a))
-tree-by-kind t n malloc a b trees = value (Malloc n (as-value (getD trees a senseless)))
-tree-by-kind t n unknown a b trees = senseless
+-- The tree of node n of this kind with these two other words, from the trees of its children.
+abbrev pub tree-by-kind : Words → ℕ → Kind → ℕ → ℕ → (ℕ → Tree) → Tree
+tree-by-kind t n variable a b tree = place (Variable n a)
+tree-by-kind t n deref a b tree = place (Deref n (as-value (tree a)))
+tree-by-kind t n field a b tree =
+    place (Field n (field-offset t (pointed-record t (node-type t a)) b) (field-count t (pointed-record t (node-type t a)) b) (as-value (tree a)))
+tree-by-kind t n constant a b tree = value (Number n a)
+tree-by-kind t n sum a b tree = value (Sum n (step-of t (node-type t a)) (as-value (tree a)) (as-value (tree b)))
+tree-by-kind t n read a b tree = value (Read n (is-pointer (node-type t n)) (as-place (tree a)))
+tree-by-kind t n address a b tree = value (Address n (as-place (tree a)))
+tree-by-kind t n cast a b tree = value (Cast n (is-pointer (node-type t a) && is-pointer b) (as-value (tree a)))
+tree-by-kind t n size a b tree = value (Number n (size-of t a))
+tree-by-kind t n malloc a b tree = value (Malloc n (as-value (tree a)))
+tree-by-kind t n unknown a b tree = senseless
 
+-- The tree of node n, from the trees of the nodes before it: a child that isn't before it has none.
 unfoldable pub tree-rule : Words → ℕ → List Tree → Tree
-tree-rule t n trees = tree-by-kind t n (node-kind t n) (node-a t n) (node-b t n) trees
+tree-rule t n trees = tree-by-kind t n (node-kind t n) (node-a t n) (node-b t n) (λ x. getD trees x senseless)
 
 unfoldable pub trees-below : Words → ℕ → List Tree
 trees-below t n = grow (tree-rule t) n

@@ -108,7 +108,7 @@ field-offset t r f = sum-below f (field-count t r)
 unfoldable pub size-of : Words → ℕ → ℕ
 size-of t x = if ltb x (record-target 0) then 1 else field-offset t (x - record-target 0) (field-total t (x - record-target 0))
 
--- Kinds 1 to 10, and every other word.
+-- Kinds 1 to 10, and every other word. Document 01 calls deref follow, and malloc obtain.
 pub data Kind : Type 0 where
   variable deref field constant sum read address cast size malloc unknown : Kind
 
@@ -125,52 +125,43 @@ kind-of w =
     if eqb w 9 then size else
     if eqb w 10 then malloc else unknown
 
--- "Kinds 1 to 3 are places, 4 to 10 values."
 pub data Sort : Type 0 where
   place value neither : Sort
 
-abbrev pub sort-of : Kind → Sort
-sort-of variable = place
-sort-of deref = place
-sort-of field = place
-sort-of constant = value
-sort-of sum = value
-sort-of read = value
-sort-of address = value
-sort-of cast = value
-sort-of size = value
-sort-of malloc = value
-sort-of unknown = neither
-
--- "A node's kind decides what its two other words mean."
 pub data Operand : Type 0 where
   unused variable-number field-number any-word type-word target-word place-child value-child : Operand
 
+-- A row of document 01's table of kinds.
+pub record Row : Type 0 where
+  pub sort : Sort
+  pub a : Operand
+  pub b : Operand
+
+abbrev row : Sort → Operand → Operand → Row
+row s a b = record { sort = s; a = a; b = b }
+
+-- "Kinds 1 to 3 are places, 4 to 10 values." "A node's kind decides what its two other words mean. An unused b is 0."
+abbrev pub row-of : Kind → Row
+row-of variable = row place variable-number unused
+row-of deref = row place value-child unused
+row-of field = row place value-child field-number
+row-of constant = row value any-word unused
+row-of sum = row value value-child value-child
+row-of read = row value place-child unused
+row-of address = row value place-child unused
+row-of cast = row value value-child type-word
+row-of size = row value target-word unused
+row-of malloc = row value value-child unused
+row-of unknown = row neither any-word any-word
+
+abbrev pub sort-of : Kind → Sort
+sort-of k = row-of k .sort
+
 abbrev pub operand-a : Kind → Operand
-operand-a variable = variable-number
-operand-a deref = value-child
-operand-a field = value-child
-operand-a constant = any-word
-operand-a sum = value-child
-operand-a read = place-child
-operand-a address = place-child
-operand-a cast = value-child
-operand-a size = target-word
-operand-a malloc = value-child
-operand-a unknown = any-word
+operand-a k = row-of k .a
 
 abbrev pub operand-b : Kind → Operand
-operand-b variable = unused
-operand-b deref = unused
-operand-b field = field-number
-operand-b constant = unused
-operand-b sum = value-child
-operand-b read = unused
-operand-b address = unused
-operand-b cast = type-word
-operand-b size = unused
-operand-b malloc = unused
-operand-b unknown = any-word
+operand-b k = row-of k .b
 
 unfoldable pub node-kind : Words → ℕ → Kind
 node-kind t n = kind-of (item t nodes n 0)
@@ -195,22 +186,23 @@ child value-child x = x ∷ []
 unfoldable pub children : Words → ℕ → Words
 children t n = child (operand-a (node-kind t n)) (node-a t n) ++ child (operand-b (node-kind t n)) (node-b t n)
 
--- The last column of document 01's table: the type of a node, from its kind, its two other words and the types of the nodes before it.
-abbrev pub type-by-kind : Words → Kind → ℕ → ℕ → Words → ℕ
-type-by-kind t variable a b types = item t variables a 0
-type-by-kind t deref a b types = target t (word types a)
-type-by-kind t field a b types = field-type t (pointed-record t (word types a)) b
-type-by-kind t constant a b types = int
-type-by-kind t sum a b types = word types a
-type-by-kind t read a b types = word types a
-type-by-kind t address a b types = entry-type (entry-below t (count t pointers) (word types a))
-type-by-kind t cast a b types = b
-type-by-kind t size a b types = int
-type-by-kind t malloc a b types = void-pointer
-type-by-kind t unknown a b types = int
+-- The last column of document 01's table: the type of a node of this kind with these two other words, from the types of its children.
+abbrev pub type-by-kind : Words → Kind → ℕ → ℕ → (ℕ → ℕ) → ℕ
+type-by-kind t variable a b type = item t variables a 0
+type-by-kind t deref a b type = target t (type a)
+type-by-kind t field a b type = field-type t (pointed-record t (type a)) b
+type-by-kind t constant a b type = int
+type-by-kind t sum a b type = type a
+type-by-kind t read a b type = type a
+type-by-kind t address a b type = entry-type (entry-below t (count t pointers) (type a))
+type-by-kind t cast a b type = b
+type-by-kind t size a b type = int
+type-by-kind t malloc a b type = void-pointer
+type-by-kind t unknown a b type = int
 
+-- The type of node n, from the types of the nodes before it: a child that isn't before it counts as an int.
 unfoldable pub type-rule : Words → ℕ → Words → ℕ
-type-rule t n types = type-by-kind t (node-kind t n) (node-a t n) (node-b t n) types
+type-rule t n types = type-by-kind t (node-kind t n) (node-a t n) (node-b t n) (word types)
 
 -- The types of the nodes below n, and of node n.
 unfoldable pub types-below : Words → ℕ → Words

@@ -1,10 +1,10 @@
--- Lists of words, and the four ways in which the definitions go over numbers: a choice, a sum, the least, a list that grows.
+-- Lists of words, and the ways in which the definitions go over numbers: a sum, any, the least, a list that grows.
 use Prim.Native.Nat.{ℕ, zero, suc, _+_}
-use mathlib.Core.Bool.{Bool, true, false}
+use mathlib.Core.Bool.{Bool, true, false, _||_}
 use mathlib.Core.List.{List, [], _∷_, _++_}
 use lib.ListN.{getD, replicate}
 use lib.Seq.{sets}
-use lib.Dec.{ltb}
+use lib.Dec.{ltb, eqb}
 
 -- A table, an input list and each list of the lent memory.
 abbrev pub Words : Type 0
@@ -27,6 +27,15 @@ if false then a else b = b
 unfoldable pub sum-below : ℕ → (ℕ → ℕ) → ℕ
 sum-below zero f = 0
 sum-below (suc n) f = sum-below n f + f n
+
+-- p holds of some number below n.
+unfoldable pub any-below : ℕ → (ℕ → Bool) → Bool
+any-below zero p = false
+any-below (suc n) p = any-below n p || p n
+
+-- f gives for i what it gave for a number before it.
+unfoldable pub seen-before : (ℕ → ℕ) → ℕ → Bool
+seen-before f i = any-below i (λ j. eqb (f j) (f i))
 
 -- The least number below n that p holds of, or n if there is none.
 unfoldable pub least-below : ℕ → (ℕ → Bool) → ℕ
