@@ -3,7 +3,7 @@ ghost use mathlib.Core.Path.{_≡_};
 ghost use Rattle.semantics.specs.Check.{check};
 ghost use Rattle.semantics.specs.Run.{call};
 ghost use Rattle.semantics.specs.Safety.{Spatially-safe};
-ghost use Rattle.capi.specs.Numbers.{verdict-of, Is};
+ghost use Rattle.capi.specs.Numbers.{verdict-numbers, Is};
 use layout::Verdict;
 use machine::Answer;
 
@@ -27,7 +27,7 @@ pub struct MavistableAnswer {
 
 #[no_mangle]
 pub extern "C" fn mavistable_check(table: &[u32]) -> MavistableVerdict
-    ensures { λ r. ⌜ verdict-of r ≡ check (now (table .entry)) ⌝ }
+    ensures { λ r. ⌜ r ≡ verdict-numbers (check (now (table .entry))) ⌝ }
 {
     match machine::check(table) {
         Verdict::Passes => MavistableVerdict {
