@@ -1,10 +1,14 @@
-/* Mavistable for C: checks and runs routines given as tables of 32-bit words, with the bounds of every pointer tracked.
+/* Mavistable for C and C++: checks and runs routines given as tables of 32-bit words, with the bounds of every pointer tracked.
    Link with libcapi.a. Both calls work on any words, allocate nothing, keep no state and may run on several threads. */
 #ifndef MAVISTABLE_H
 #define MAVISTABLE_H
 
 #include <stddef.h>
 #include <stdint.h>
+
+#ifdef __cplusplus
+extern "C" {
+#endif
 
 /* The verdict on a table. */
 struct mavistable_verdict {
@@ -46,5 +50,9 @@ struct mavistable_verdict mavistable_check(const uint32_t *table, size_t length)
 struct mavistable_answer mavistable_run(const uint32_t *table, size_t table_length, const uint32_t *inputs, size_t input_count,
                                         const uint32_t *registers, size_t registers_length, uint32_t *values, size_t values_length,
                                         uint32_t *bases, size_t bases_length, uint32_t *ends, size_t ends_length);
+
+#ifdef __cplusplus
+}
+#endif
 
 #endif
