@@ -41,51 +41,48 @@ fn put_list(out: &mut [u8], at: usize, name: &[u8], list: &[u32]) -> usize {
     text::put_bytes(out, at, b"\n")
 }
 
-fn run_case(
+fn make_calls(
     t: &[u32],
     inputs: &[u32],
     registers: &[u32],
     values: &mut [u32],
     bases: &mut [u32],
     ends: &mut [u32],
-    out: &mut [u8],
-    at: usize,
-) -> usize {
+) {
+    let mut out = io::large_buffer();
+    let v = capi::mavistable_check(t);
     let a = capi::mavistable_run(t, inputs, registers, values, bases, ends);
-    let at = put_answer(out, at, a);
-    let at = put_list(out, at, b"values", values);
-    let at = put_list(out, at, b"bases", bases);
-    put_list(out, at, b"ends", ends)
+    let at = put_verdict(&mut out, 0, v);
+    let at = put_answer(&mut out, at, a);
+    let at = put_list(&mut out, at, b"values", values);
+    let at = put_list(&mut out, at, b"bases", bases);
+    let at = put_list(&mut out, at, b"ends", ends);
+    stream::flush(&out, at);
 }
 
-// Both calls on a case whose registers start at `list` and whose table stands from `from` to `to`.
-fn make_calls(numbers: &[u32], list: usize, from: usize, to: usize)
+// A case whose registers start at `list` and whose table stands from `from` to `to`.
+fn lend(numbers: &[u32], list: usize, from: usize, to: usize)
     requires { ⌜ (8 ≤ list) × (list < from) × (from ≤ to) × (to ≤ length (now numbers)) ⌝ }
 {
-    let mut values = [7u32; 64];
-    let mut bases = [7u32; 64];
-    let mut ends = [7u32; 64];
     let v = index(numbers[2]);
     let b = index(numbers[3]);
     let e = index(numbers[4]);
     if 64 < v || 64 < b || 64 < e {
         return malformed();
     }
-    let mut out = io::large_buffer();
+    let mut values = [7u32; 64];
+    let mut bases = [7u32; 64];
+    let mut ends = [7u32; 64];
     let inputs_end = list - 1;
     let list_end = from - 1;
-    let at = put_verdict(&mut out, 0, capi::mavistable_check(&numbers[from..to]));
-    let at = run_case(
+    make_calls(
         &numbers[from..to],
         &numbers[7..inputs_end],
         &numbers[list..list_end],
         &mut values[0..v],
         &mut bases[0..b],
         &mut ends[0..e],
-        &mut out,
-        at,
     );
-    stream::flush(&out, at);
 }
 
 // Answers the case that the numbers start with, and tells how many of them it has: all that are left where they are no case.
@@ -101,7 +98,7 @@ fn answer_case(numbers: &[u32]) -> usize
             if from <= n {
                 let to = from + index(numbers[from - 1]);
                 if to <= n {
-                    make_calls(numbers, list, from, to);
+                    lend(numbers, list, from, to);
                     return to;
                 }
             }
