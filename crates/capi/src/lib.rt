@@ -3,6 +3,7 @@ ghost use mathlib.Core.Path.{_≡_};
 ghost use Rattle.semantics.specs.Check.{check};
 ghost use Rattle.semantics.specs.Run.{call};
 ghost use Rattle.semantics.specs.Safety.{Spatially-safe};
+ghost use Rattle.semantics.specs.Log.{Log-believable};
 ghost use Rattle.capi.specs.Numbers.{verdict-numbers, Is};
 use layout::Verdict;
 use machine::Answer;
@@ -54,6 +55,7 @@ pub extern "C" fn mavistable_run(
 ) -> MavistableAnswer
     ensures called { λ r. ⌜ Is (call (now (table .entry)) (now (inputs .entry)) (now (registers .entry)) (now (values .entry)) (now (bases .entry)) (now (ends .entry))) r (now (values .exit)) (now (bases .exit)) (now (ends .exit)) ⌝ }
     ensures safe { λ r. ⌜ Spatially-safe (now (table .entry)) (now (inputs .entry)) (now (registers .entry)) (now (values .entry)) (now (bases .entry)) (now (ends .entry)) ⌝ }
+    ensures logged { λ r. ⌜ Log-believable (now (table .entry)) (now (inputs .entry)) (now (registers .entry)) (now (values .entry)) (now (bases .entry)) (now (ends .entry)) ⌝ }
 {
     match machine::run(table, inputs, registers, values, bases, ends) {
         Answer::Refused(number, place) => MavistableAnswer {

@@ -2,6 +2,7 @@
 ghost use mathlib.Core.Path.{_≡_};
 ghost use Prim.Native.Nat.{_<_, _^_};
 ghost use Rattle.semantics.specs.Safety.{Spatially-safe};
+ghost use Rattle.semantics.specs.Log.{Log-believable};
 ghost use Rattle.semantics.specs.Check.{_or-else_, check, arguments-fault, registers-fault};
 ghost use Rattle.semantics.specs.Run.{call};
 ghost use Rattle.layout.specs.Layout.{verdict-of, Stands};
@@ -197,6 +198,7 @@ pub fn run(
 ) -> Answer
     ensures called { λ r. ⌜ Is (call (now (t .entry)) (now (inputs .entry)) (now (registers .entry)) (now (values .entry)) (now (bases .entry)) (now (ends .entry))) r (now (values .exit)) (now (bases .exit)) (now (ends .exit)) ⌝ }
     ensures safe { λ r. ⌜ Spatially-safe (now (t .entry)) (now (inputs .entry)) (now (registers .entry)) (now (values .entry)) (now (bases .entry)) (now (ends .entry)) ⌝ }
+    ensures logged { λ r. ⌜ Log-believable (now (t .entry)) (now (inputs .entry)) (now (registers .entry)) (now (values .entry)) (now (bases .entry)) (now (ends .entry)) ⌝ }
 {
     let mut first = [0u32; 33];
     let mut sizes = [0u32; 32];

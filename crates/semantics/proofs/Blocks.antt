@@ -25,14 +25,14 @@ split x log (y ∷ later) e earlier q = inr (record { later = later; is = cc })
 
 -- ---- events of different kinds differ
 
-not-loaded : {w : ℕ} {x : Access} {a n : ℕ} → allocated a n ≡ loaded w x → ⊥
-not-loaded q = let z : _≡_ {A = ℕ} 0 1 = cc in omega arith
+pub stored-loaded : {w v : ℕ} {a b : Access} → stored w a ≡ loaded v b → ⊥
+stored-loaded q = let z : _≡_ {A = ℕ} 0 1 = cc in omega arith
 
-not-stored : {w : ℕ} {x : Access} {a n : ℕ} → allocated a n ≡ stored w x → ⊥
-not-stored q = let z : _≡_ {A = ℕ} 0 1 = cc in omega arith
+pub stored-allocated : {w v n : ℕ} {a : Access} → stored w a ≡ allocated v n → ⊥
+stored-allocated q = let z : _≡_ {A = ℕ} 0 1 = cc in omega arith
 
-other-kinds : {w v : ℕ} {a b : Access} → loaded w a ≡ stored v b → ⊥
-other-kinds q = let z : _≡_ {A = ℕ} 0 1 = cc in omega arith
+loaded-allocated : {w v n : ℕ} {a : Access} → loaded w a ≡ allocated v n → ⊥
+loaded-allocated q = let z : _≡_ {A = ℕ} 0 1 = cc in omega arith
 
 -- ---- what is allowed, event by event
 
@@ -56,7 +56,7 @@ module _ {vars : ℕ} where
       go e earlier w a here below (inr d) = below (d .later) (d .is)
 
   pub load-allowed : {w : ℕ} {a : Access} {log : List Event} → Permitted vars log w a → Allowed vars log → Allowed vars (loaded w a ∷ log)
-  load-allowed {w} {a} {log} h = one-allowed (λ v b q. same v b q h) (λ v b q. absurd (other-kinds q))
+  load-allowed {w} {a} {log} h = one-allowed (λ v b q. same v b q h) (λ v b q. absurd (stored-loaded (sym q)))
     where
       same : (v : ℕ) (b : Access) → loaded w a ≡ loaded v b → Permitted vars log w a → Permitted vars log v b
       same v b q k =
@@ -65,7 +65,7 @@ module _ {vars : ℕ} where
           rw (e, f) at k
 
   pub store-allowed : {w : ℕ} {a : Access} {log : List Event} → Permitted vars log w a → Allowed vars log → Allowed vars (stored w a ∷ log)
-  store-allowed {w} {a} {log} h = one-allowed (λ v b q. absurd (other-kinds (sym q))) (λ v b q. same v b q h)
+  store-allowed {w} {a} {log} h = one-allowed (λ v b q. absurd (stored-loaded q)) (λ v b q. same v b q h)
     where
       same : (v : ℕ) (b : Access) → stored w a ≡ stored v b → Permitted vars log w a → Permitted vars log v b
       same v b q k =
@@ -74,7 +74,7 @@ module _ {vars : ℕ} where
           rw (e, f) at k
 
   pub alloc-allowed : {s n : ℕ} {log : List Event} → Allowed vars log → Allowed vars (allocated s n ∷ log)
-  alloc-allowed = one-allowed (λ w a q. absurd (not-loaded q)) (λ w a q. absurd (not-stored q))
+  alloc-allowed = one-allowed (λ w a q. absurd (loaded-allocated (sym q))) (λ w a q. absurd (stored-allocated (sym q)))
 
 -- ---- blocks
 
@@ -94,8 +94,8 @@ stacked-low (alloc some st) = omega (arith, stacked-low st)
 -- Each has a word, and lies above the variables and below U.
 pub stacked-inside : {vars u : ℕ} {log : List Event} → Stacked vars log u → (a n : ℕ) → List·Memᴰ (allocated a n) log → (0 < n) × (vars < a) × (a + n ≤ u)
 stacked-inside none a n h = absurd (List·Memᴰ·not-nil h)
-stacked-inside (load st) a n h = ⊎-elim (λ q. absurd (not-loaded q)) (λ m. stacked-inside st a n m) (List·Memᴰ·cases-cons h)
-stacked-inside (store st) a n h = ⊎-elim (λ q. absurd (not-stored q)) (λ m. stacked-inside st a n m) (List·Memᴰ·cases-cons h)
+stacked-inside (load st) a n h = ⊎-elim (λ q. absurd (loaded-allocated (sym q))) (λ m. stacked-inside st a n m) (List·Memᴰ·cases-cons h)
+stacked-inside (store st) a n h = ⊎-elim (λ q. absurd (stored-allocated (sym q))) (λ m. stacked-inside st a n m) (List·Memᴰ·cases-cons h)
 stacked-inside {vars} (alloc {n = k} {u = u} some st) a n h = ⊎-elim new (λ m. omega (arith, stacked-inside st a n m)) (List·Memᴰ·cases-cons h)
   where
     new : allocated a n ≡ allocated u k → (0 < n) × (vars < a) × (a + n ≤ u + k)
@@ -108,9 +108,9 @@ stacked-inside {vars} (alloc {n = k} {u = u} some st) a n h = ⊎-elim new (λ m
 stacked-before : {vars u : ℕ} {log : List Event} → Stacked vars log u → (later : List Event) (a n : ℕ) (earlier : List Event) → log ≡ later ++ allocated a n ∷ earlier → Stacked vars earlier a
 stacked-before none later a n earlier q = absurd (nil-no-split later (allocated a n) earlier q)
 stacked-before {vars} (load {w = w} {a = x} {log = log} st) later a n earlier q =
-    ⊎-elim (λ p. absurd (not-loaded (sym (p .0)))) (λ d. stacked-before st (d .later) a n earlier (d .is)) (split (loaded w x) log later (allocated a n) earlier q)
+    ⊎-elim (λ p. absurd (loaded-allocated (p .0))) (λ d. stacked-before st (d .later) a n earlier (d .is)) (split (loaded w x) log later (allocated a n) earlier q)
 stacked-before {vars} (store {w = w} {a = x} {log = log} st) later a n earlier q =
-    ⊎-elim (λ p. absurd (not-stored (sym (p .0)))) (λ d. stacked-before st (d .later) a n earlier (d .is)) (split (stored w x) log later (allocated a n) earlier q)
+    ⊎-elim (λ p. absurd (stored-allocated (p .0))) (λ d. stacked-before st (d .later) a n earlier (d .is)) (split (stored w x) log later (allocated a n) earlier q)
 stacked-before {vars} (alloc {n = k} {log = log} {u = u} some st) later a n earlier q =
     ⊎-elim here (λ d. stacked-before st (d .later) a n earlier (d .is)) (split (allocated u k) log later (allocated a n) earlier q)
   where
@@ -133,9 +133,9 @@ two-blocks : {vars u : ℕ} {log : List Event} → Stacked vars log u → (a n b
     → a ≤ w → w < a + n → b ≤ w → w < b + k → (a ≡ b) × (n ≡ k)
 two-blocks none a n b k w h g la lb ma mb = absurd (List·Memᴰ·not-nil h)
 two-blocks (load st) a n b k w h g la lb ma mb =
-    ⊎-elim (λ q. absurd (not-loaded q)) (λ h′. ⊎-elim (λ q. absurd (not-loaded q)) (λ g′. two-blocks st a n b k w h′ g′ la lb ma mb) (List·Memᴰ·cases-cons g)) (List·Memᴰ·cases-cons h)
+    ⊎-elim (λ q. absurd (loaded-allocated (sym q))) (λ h′. ⊎-elim (λ q. absurd (loaded-allocated (sym q))) (λ g′. two-blocks st a n b k w h′ g′ la lb ma mb) (List·Memᴰ·cases-cons g)) (List·Memᴰ·cases-cons h)
 two-blocks (store st) a n b k w h g la lb ma mb =
-    ⊎-elim (λ q. absurd (not-stored q)) (λ h′. ⊎-elim (λ q. absurd (not-stored q)) (λ g′. two-blocks st a n b k w h′ g′ la lb ma mb) (List·Memᴰ·cases-cons g)) (List·Memᴰ·cases-cons h)
+    ⊎-elim (λ q. absurd (stored-allocated (sym q))) (λ h′. ⊎-elim (λ q. absurd (stored-allocated (sym q))) (λ g′. two-blocks st a n b k w h′ g′ la lb ma mb) (List·Memᴰ·cases-cons g)) (List·Memᴰ·cases-cons h)
 two-blocks (alloc {n = m} {log = log} {u = u} some st) a n b k w h g la lb ma mb =
     go (List·Memᴰ·cases-cons h) (List·Memᴰ·cases-cons g) (λ h′ g′. two-blocks st a n b k w h′ g′ la lb ma mb)
   where

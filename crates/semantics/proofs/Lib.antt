@@ -5,7 +5,9 @@ pub mod Lists
 pub mod Passed
 pub mod Sizes
 pub mod Blocks
+pub mod Places
 pub mod Invariant
+pub mod Reading
 pub mod Steps
 pub mod Registers
 pub mod Trees

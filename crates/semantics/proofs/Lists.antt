@@ -2,6 +2,7 @@
 use Prim.Native.Nat.{ℕ, zero, suc, _+_, _*_, _≤_, _<_}
 use mathlib.Core.Bool.{Bool, true, false, _||_, false≢true}
 use mathlib.Core.Path.{_≡_, refl, sym, ap, _∙_}
+use mathlib.Core.Logic.{_⊎_, inl, inr}
 use mathlib.Core.List.{List, [], _∷_, _++_}
 use native.Mathlib.Omega.{arith}
 use native.Mathlib.Nat.{not-suc-le-zero}
@@ -9,7 +10,7 @@ use native.Mathlib.Decide.{ℕ-discrete}
 use borrow.Author.Tests.{ltb-true, lt-ltb, le-ltb}
 use lib.Dec.{ltb}
 use lib.ListN.{length, getD, replicate, set, length-append, List·getD-append}
-use lib.Seq.{getD-at, set-getD, sets}
+use lib.Seq.{getD-at, getD-set-other, set-getD, sets}
 use Rattle.semantics.specs.Words.{Words, word, zeroed, if_then_else_, sum-below, any-below, least-below, grow}
 
 module _ {A : Type 0} (f : ℕ → List A → A) where
@@ -83,3 +84,34 @@ zeroed-clear l from zero h = refl
 zeroed-clear l from (suc n) h =
     let same : set l from 0 ≡ l = rw (h from (omega arith)) at (set-getD l from 0) in
     ap (λ k. sets k (suc from) (replicate n 0)) same ∙ zeroed-clear l (suc from) n (λ w k. h w (omega arith))
+
+-- Words outside the cleared ones are as they were; those inside are 0, also past the end of the list.
+pub zeroed-outside : (l : Words) (from n w : ℕ) → (w < from) ⊎ (from + n ≤ w) → word (zeroed l from n) w ≡ word l w
+unfolding zeroed
+zeroed-outside l from zero w h = refl
+zeroed-outside l from (suc n) w h =
+    zeroed-outside (set l from 0) (suc from) n w (further h) ∙ getD-set-other l from w 0 0 (λ e. elsewhere e h)
+  where
+    further : (w < from) ⊎ (from + suc n ≤ w) → (w < suc from) ⊎ (suc from + n ≤ w)
+    further (inl k) = inl (omega arith)
+    further (inr k) = inr (omega arith)
+
+    elsewhere : w ≡ from → (w < from) ⊎ (from + suc n ≤ w) → ⊥
+    elsewhere e (inl k) = omega arith
+    elsewhere e (inr k) = omega arith
+
+pub zeroed-inside : (l : Words) (from n w : ℕ) → from ≤ w → w < from + n → word (zeroed l from n) w ≡ 0
+unfolding zeroed
+zeroed-inside l from zero w h k = absurd (omega arith)
+zeroed-inside l from (suc n) w h k = go (ℕ-discrete w from) (zeroed-inside (set l from 0) (suc from) n w) (zeroed-outside (set l from 0) (suc from) n w)
+  where
+    at-first : (m : Words) (i : ℕ) → word (set m i 0) i ≡ 0
+    at-first [] i = refl
+    at-first (x ∷ m) zero = refl
+    at-first (x ∷ m) (suc i) = at-first m i
+
+    go : Dec (w ≡ from) → (suc from ≤ w → w < suc from + n → word (zeroed (set l from 0) (suc from) n) w ≡ 0)
+        → ((w < suc from) ⊎ (suc from + n ≤ w) → word (zeroed (set l from 0) (suc from) n) w ≡ word (set l from 0) w)
+        → word (zeroed (set l from 0) (suc from) n) w ≡ 0
+    go (yes e) later kept = kept (inl (omega arith)) ∙ rw e (at-first l from)
+    go (no e) later kept = later (omega arith) (omega arith)

@@ -14,13 +14,14 @@ use Rattle.semantics.specs.Check.{passes, require, check, lengths-fit, a
 use Rattle.semantics.specs.Rules.{State, Outcome}
 use Rattle.semantics.specs.Run.{cleared, begin, command, Ending, done, abort, out-of-memory, stuck, Run, ended, after-command, then-command, commands-below, run}
 use Rattle.semantics.specs.Safety.{absent, Spatially-safe}
-use Rattle.semantics.specs.Log.{Unwritten, Same-word, Blocks-apart}
+use Rattle.semantics.specs.Log.{Log-believable}
 use Rattle.semantics.proofs.Tests.{and-true}
 use Rattle.semantics.proofs.Passed.{or-else-passes, require-passes, Passed, passed}
 use Rattle.semantics.proofs.Blocks.{none, none-allowed, blocks-apart}
 use Rattle.semantics.proofs.Invariant.{Inv, Later, now, later-trans, Good, good-ok, good-fails, good-no-room}
 use Rattle.semantics.proofs.Steps.{Any, assign-good}
 use Rattle.semantics.proofs.Registers.{Listed, listed, sets-other, registers-inv}
+use Rattle.semantics.proofs.Reading.{reads-are-logged, begin-unwritten}
 use Rattle.semantics.proofs.Trees.{command-ok}
 
 -- ---- a begun run's first state
@@ -138,14 +139,17 @@ spatial-safety t inputs registers values bases ends e =
       lengths = (r .inv .values-length, r .inv .bases-length, r .inv .ends-length);
     }
 
--- The log has every word that the run wrote, and its blocks lie apart.
-pub writes-are-logged : {t inputs registers : Words} {len bases ends : ℕ} → Begun t inputs registers len bases ends
-    → (w : ℕ) → Unwritten w (run t inputs registers len .state .log) → Same-word w (begin t inputs registers len) (run t inputs registers len .state)
-writes-are-logged b w h = begun-runs b .past .kept w h
-
-pub blocks-are-apart : {t inputs registers : Words} {len bases ends : ℕ} → Begun t inputs registers len bases ends
-    → Blocks-apart (count t variables) len (run t inputs registers len .state .log)
-blocks-are-apart b = blocks-apart (begun-runs b .inv .blocks) (begun-runs b .inv .high)
+-- The log of every begun run has every word written and every word that sways the run, and its blocks lie apart.
+pub log-is-believable : (t inputs registers values bases ends : Words) → Log-believable t inputs registers values bases ends
+unfolding run
+log-is-believable t inputs registers values bases ends e =
+    let s = begin t inputs registers (length values) in
+    let r = begun-runs (begun t inputs registers (length values) (length bases) (length ends) e) in
+    record {
+      blocks = blocks-apart (r .inv .blocks) (r .inv .high);
+      writes = r .past .kept;
+      reads = λ s′ alike. reads-are-logged t (count t commands) s s′ (begin-unwritten t inputs registers (length values)) alike;
+    }
 
 -- "The new words are clear": at every ending of a begun run, so are the words from U on.
 pub unused-words-are-clear : (t inputs registers values bases ends : Words)

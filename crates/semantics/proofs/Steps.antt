@@ -17,6 +17,7 @@ use Rattle.semantics.specs.Log.{Unwritten, Same-word}
 use Rattle.semantics.proofs.Tests.{in-bounds-true, and-both}
 use Rattle.semantics.proofs.Lists.{zeroed-clear}
 use Rattle.semantics.proofs.Blocks.{Stacked, load, store, alloc, load-allowed, store-allowed, alloc-allowed}
+use Rattle.semantics.proofs.Places.{log-kept}
 use Rattle.semantics.proofs.Invariant.{Inv, Within, Later, now, sound-later, permitted-used, Datum-ok, Location-ok, location-later, Good, good-ok, good-fails, good-no-room, bind-good}
 
 touchable-true : {vars len w : ℕ} {s : State} {a : Access} → Inv vars len s → Permitted vars (s .log) w a → touchable s w ≡ true
@@ -124,10 +125,6 @@ datum-inv : {vars len : ℕ} {s : State} (pointer : Bool) (w : ℕ) (x : Datum) 
 datum-inv true w x used inv good = pointer-inv w x used inv good
 datum-inv {s = s} false w x used inv good =
     values-inv (set (s .values) w (x .value)) (length-set (s .values) w (x .value)) (λ v h. getD-set-other (s .values) w v (x .value) 0 (λ e. omega arith)) inv
-
-log-kept : (pointer : Bool) (w : ℕ) (x : Datum) (s : State) → with-datum pointer w x s .log ≡ s .log
-log-kept true w x s = refl
-log-kept false w x s = refl
 
 -- A store leaves a log that has it as written, and every other word as it was.
 stored-later : {s : State} (pointer : Bool) (l : Location) (x : Datum) → Later s (noted (stored (l .at) (l .access)) (with-datum pointer (l .at) x s))

@@ -1,13 +1,16 @@
 -- The log can be believed. Spatial safety speaks of the log, so these statements say what a log has: every word written, every word that sways
--- the run, and blocks that lie apart. Those about a call are of its run when it is begun.
+-- the run, and blocks that lie apart; and how each step comes by its place and its event. Those about a call are of its run when it is begun.
 use Prim.Native.Nat.{ℕ, _+_, _≤_, _<_}
+use mathlib.Core.Bool.{Bool, true, false}
 use mathlib.Core.Path.{_≡_}
+use mathlib.Core.Logic.{_⊎_}
 use mathlib.Core.List.{List, _∷_, _++_, List·Memᴰ}
-use lib.ListN.{length}
+use lib.ListN.{length, set}
 use Rattle.semantics.specs.Words.{Words, word}
 use Rattle.semantics.specs.Table.{variables, commands, count}
 use Rattle.semantics.specs.Check.{passes, call-fault}
-use Rattle.semantics.specs.Rules.{Access, Event, loaded, stored, allocated, State}
+use Rattle.semantics.specs.Syntax.{Place, Variable, Deref, Field, Value, Number, Sum, Read, Address, Cast, Malloc}
+use Rattle.semantics.specs.Rules.{Datum, unbounded, block-pointer, Access, named, followed, Location, Event, loaded, stored, allocated, State, ok, place-at, value-at}
 use Rattle.semantics.specs.Run.{begin, Run, commands-below, run}
 use Rattle.semantics.specs.Safety.{Held}
 
@@ -52,6 +55,85 @@ pub record Ends-alike (s s′ : State) (r r′ : Run) : Type 0 where
   pub same-log : r .state .log ≡ r′ .state .log
   pub words : (w : ℕ) → Same-word w s s′ → Same-word w (r .state) (r′ .state)
   pub written : (w : ℕ) (a : Access) → List·Memᴰ (stored w a) (r .state .log) → word (r .state .values) w ≡ word (r′ .state .values) w
+
+-- ---- How a place is come by, and the one event of a step
+
+-- A place that a pointer was followed to: "its child a is the pointer followed, and the bounds are those that this value had when the place was
+-- worked out." It is `offset` words past the pointer's value, and the `words` words from there on lie within the pointer's bounds.
+pub record Followed-to (v : Value) (offset words : ℕ) (s : State) (l : Location) (s′ : State) : Type 0 where
+  pub pointer : Datum
+  pub child : value-at v s ≡ ok pointer s′
+  pub access : l .access ≡ followed pointer
+  pub at : l .at ≡ pointer .value + offset
+  pub from : pointer .base ≤ l .at
+  pub upto : l .at + words ≤ pointer .end
+
+-- How a tree comes by its place l: worked out from state s, with state s′ afterwards. No event is the place's own.
+pub data Comes-by (s : State) (l : Location) (s′ : State) : Place → Type 0 where
+  -- "A read or an assignment names a variable when its place is of kind 1." "Variable: its word, with bounds [word, word + 1)."
+  variable-place : {n i : ℕ} → l .access ≡ named i → l .at ≡ 1 + i → l .base ≡ 1 + i → l .end ≡ 1 + i + 1 → s′ ≡ s → Comes-by s l s′ (Variable n i)
+  -- "Otherwise the place is a follow or a field": "The place is v and keeps [b, e)"
+  deref-place : {n : ℕ} {v : Value} (f : Followed-to v 0 1 s l s′) → l .base ≡ f .pointer .base → l .end ≡ f .pointer .end → Comes-by s l s′ (Deref n v)
+  -- "The place is w with bounds [w, w + k)."
+  field-place : {n offset k : ℕ} {v : Value} → Followed-to v offset k s l s′ → l .base ≡ l .at → l .end ≡ l .at + k → Comes-by s l s′ (Field n offset k v)
+
+-- One event more, and memory and U as they were.
+pub record Noted (e : Event) (s s′ : State) : Type 0 where
+  pub values : s′ .values ≡ s .values
+  pub bases : s′ .bases ≡ s .bases
+  pub ends : s′ .ends ≡ s .ends
+  pub unused : s′ .unused ≡ s .unused
+  pub log : s′ .log ≡ e ∷ s .log
+
+-- "Read: a pointer type gives value, base and end of the word; int gives the value without bounds"
+pub data Word-read (s : State) (w : ℕ) (d : Datum) : Bool → Type 0 where
+  pointer-read : d .value ≡ word (s .values) w → d .base ≡ word (s .bases) w → d .end ≡ word (s .ends) w → Word-read s w d true
+  int-read : d .value ≡ word (s .values) w → d .base ≡ 0 → d .end ≡ 0 → Word-read s w d false
+
+-- Value, base and end of word w are 0.
+pub record Clear-word (w : ℕ) (s : State) : Type 0 where
+  pub value : word (s .values) w ≡ 0
+  pub base : word (s .bases) w ≡ 0
+  pub end : word (s .ends) w ≡ 0
+
+-- "Obtain n: for n = 0, value 0 without bounds. Else .. value U, bounds [U, U + n), and U rises by n. The new words are clear." All other words
+-- are as they were, and the block is one event.
+pub data Obtained (n : ℕ) (s : State) (d : Datum) (s′ : State) : Type 0 where
+  no-words : n ≡ 0 → d ≡ unbounded 0 → s′ ≡ s → Obtained n s d s′
+  new-block : 1 ≤ n → d ≡ block-pointer (s .unused) n → s′ .unused ≡ s .unused + n → s′ .log ≡ allocated (s .unused) n ∷ s .log
+      → ((w : ℕ) → s .unused ≤ w → w < s .unused + n → Clear-word w s′) → ((w : ℕ) → (w < s .unused) ⊎ (s .unused + n ≤ w) → Same-word w s s′)
+      → Obtained n s d s′
+
+-- How a tree comes by its value d. "The routine reads a word at a read": that is one event, with the place's access; a block is one too; and no
+-- other tree has an event of its own.
+pub data Gives (s : State) (d : Datum) (s′ : State) : Value → Type 0 where
+  number-value : {n x : ℕ} → s′ ≡ s → Gives s d s′ (Number n x)
+  sum-value : {n step : ℕ} {a b : Value} (p x : Datum) (s₁ : State) → value-at a s ≡ ok p s₁ → value-at b s₁ ≡ ok x s′ → Gives s d s′ (Sum n step a b)
+  read-value : {n : ℕ} {pointer : Bool} {p : Place} (l : Location) (s₁ : State) → place-at p s ≡ ok l s₁
+      → Word-read s₁ (l .at) d pointer → Noted (loaded (l .at) (l .access)) s₁ s′ → Gives s d s′ (Read n pointer p)
+  address-value : {n : ℕ} {p : Place} (l : Location) → place-at p s ≡ ok l s′ → Gives s d s′ (Address n p)
+  cast-value : {n : ℕ} {keeps : Bool} {v : Value} (x : Datum) → value-at v s ≡ ok x s′ → Gives s d s′ (Cast n keeps v)
+  malloc-value : {n : ℕ} {v : Value} (x : Datum) (s₁ : State) → value-at v s ≡ ok x s₁ → Obtained (x .value) s₁ d s′ → Gives s d s′ (Malloc n v)
+
+-- "Assign: a pointer type stores value, base and end; int stores the value only, and the word's base and end stay."
+pub data Word-stored (s : State) (w : ℕ) (x : Datum) (s′ : State) : Bool → Type 0 where
+  pointer-stored : s′ .values ≡ set (s .values) w (x .value) → s′ .bases ≡ set (s .bases) w (x .base) → s′ .ends ≡ set (s .ends) w (x .end)
+      → Word-stored s w x s′ true
+  int-stored : s′ .values ≡ set (s .values) w (x .value) → s′ .bases ≡ s .bases → s′ .ends ≡ s .ends → Word-stored s w x s′ false
+
+-- A command that is done: "a command's place before its value". "The routine .. writes one at an assign": one event, with the place's access.
+pub record Assigns (pointer : Bool) (p : Place) (v : Value) (s s′ : State) : Type 0 where
+  pub l : Location
+  pub s₁ : State
+  pub place : place-at p s ≡ ok l s₁
+  pub x : Datum
+  pub s₂ : State
+  pub value : value-at v s₁ ≡ ok x s₂
+  pub memory : Word-stored s₂ (l .at) x s′ pointer
+  pub unused : s′ .unused ≡ s₂ .unused
+  pub log : s′ .log ≡ stored (l .at) (l .access) ∷ s₂ .log
+
+-- ---- A call
 
 -- What holds of the log of a run that began in state s, in memory of this length, with this many variables and these commands of the table.
 pub record Believable (t : Words) (len : ℕ) (s : State) (r : Run) : Type 0 where

@@ -2,7 +2,7 @@
 use borrow.Author.Needs.{needs}
 use denote.Ref.{now}
 use mathlib.Core.Path.{sym, _∙_}
-use Rattle.semantics.proofs.Safety.{spatial-safety}
+use Rattle.semantics.proofs.Safety.{spatial-safety, log-is-believable}
 use Rattle.machine.proofs.Calls.{layout-passes, layout-refused, table-refused}
 use Rattle.machine.proofs.run.Statement.{statement}
 use Rattle.machine.proofs.run.Tie as tie
@@ -16,12 +16,12 @@ run-checked-requires c κs =
 returns : tie.Need-returns
 returns c =
     let a = c .before .before .before .before .before .before .before .before .before .before .before .before .before .before .before .before .before .before .before .before .before .before .before .before .before .before .before .before .args in
-    (c .before .before .before .before .before .before .run-checked .ensures, spatial-safety (now (a .t)) (now (a .inputs)) (now (a .registers)) (now (a .values)) (now (a .bases)) (now (a .ends)))
+    (c .before .before .before .before .before .before .run-checked .ensures, (spatial-safety (now (a .t)) (now (a .inputs)) (now (a .registers)) (now (a .values)) (now (a .bases)) (now (a .ends)), log-is-believable (now (a .t)) (now (a .inputs)) (now (a .registers)) (now (a .values)) (now (a .bases)) (now (a .ends))))
 
 returns-2 : tie.Need-returns-2
 returns-2 c =
     let a = c .before .before .before .before .before .before .before .before .before .before .before .before .before .before .args in
-    (table-refused _ _ _ _ _ _ (layout-refused _ _ (sym (c .before .before .before .check .ensures .answer) ∙ c .before .n .given .1)), spatial-safety (now (a .t)) (now (a .inputs)) (now (a .registers)) (now (a .values)) (now (a .bases)) (now (a .ends)))
+    (table-refused _ _ _ _ _ _ (layout-refused _ _ (sym (c .before .before .before .check .ensures .answer) ∙ c .before .n .given .1)), (spatial-safety (now (a .t)) (now (a .inputs)) (now (a .registers)) (now (a .values)) (now (a .bases)) (now (a .ends)), log-is-believable (now (a .t)) (now (a .inputs)) (now (a .registers)) (now (a .values)) (now (a .bases)) (now (a .ends))))
 
 pub run-spec : {M : Type 1} → statement M
 run-spec =
