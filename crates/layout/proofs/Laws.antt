@@ -33,6 +33,11 @@ pub or-else-refuse : (u v : Verdict) {n p : ℕ} → u ≡ refused n p → u or-
 unfolding _or-else_
 or-else-refuse u v e = rw e refl
 
+pub or-else-assoc : (u v w : Verdict) → (u or-else v) or-else w ≡ u or-else (v or-else w)
+unfolding _or-else_
+or-else-assoc passes v w = refl
+or-else-assoc (refused n p) v w = refl
+
 -- What an answer that a `match` has told apart says of the verdict.
 pub told-as : {r r′ : answer.Verdict} {v : Verdict} → verdict-of r ≡ v → r ≡ r′ → verdict-of r′ ≡ v
 told-as e q = ap verdict-of (sym q) ∙ e
@@ -63,23 +68,6 @@ refusal {n} {p} e = record { verdict = e; found = λ q. absurd (let z : _≡_ {A
 pub sum-more : (f : ℕ → ℕ) (i : ℕ) → sum-below (i + 1) f ≡ sum-below i f + f i
 unfolding sum-below
 sum-more f i = rw (add-one i) refl
-
--- A list that is filled from its start.
-pub tabulated-none : (l : Words) (g : ℕ → ℕ) → 0 < length l → g 0 ≡ 0 → Tabulated (set l 0 0) 0 g
-tabulated-none l g h e = record { holds = λ k less. go k (omega arith) }
-  where
-    go : (k : ℕ) → k ≡ 0 → word (set l 0 0) k ≡ g k
-    go k q = rw (q, e) (getD-set-same l 0 0 0 h)
-
-pub tabulated-more : (l : Words) (i v : ℕ) (g : ℕ → ℕ) → i + 1 < length l → v ≡ g (i + 1) → Tabulated l i g → Tabulated (set l (i + 1) v) (i + 1) g
-tabulated-more l i v g h e before = record { holds = λ k less. go k less (ℕ-discrete k (i + 1)) }
-  where
-    go : (k : ℕ) → k ≤ i + 1 → Dec (k ≡ i + 1) → word (set l (i + 1) v) k ≡ g k
-    go k less (yes q) = rw q (getD-set-same l (i + 1) v 0 h ∙ e)
-    go k less (no q) = getD-set-other l (i + 1) k v 0 q ∙ before .holds k (omega arith)
-
-pub tabulated-all : {l : Words} {g : ℕ → ℕ} (i n : ℕ) → i ≡ n → Tabulated l i g → Tabulated l n g
-tabulated-all i n e h = rw e at h
 
 -- Word j of entry i of a section that stands at l.
 module _ {t : Words} {s : ℕ} {l : Section} (h : Stands t s l) (i j p : ℕ) (e : p ≡ l .at + word entry-words s * i + j) where

@@ -1,14 +1,18 @@
--- Laws of lists that are filled.
+-- Laws of lists that are filled, and of the first that a check refuses.
 use Prim.Native.Nat.{ℕ, zero, suc, _+_, _≤_, _<_}
-use mathlib.Core.Path.{_≡_, refl, _∙_}
+use mathlib.Core.Path.{_≡_, refl, ap, _∙_}
 use native.Mathlib.Omega.{arith}
 use native.Mathlib.Nat.{not-suc-le-zero}
 use native.Mathlib.Numerals.{add-one}
 use native.Mathlib.Decide.{ℕ-discrete}
+use borrow.Author.Tests.{le-ltb, lt-ltb}
 use lib.ListN.{length, set, length-set}
-use lib.Seq.{getD-set-same, getD-set-other}
-use Rattle.semantics.specs.Words.{Words, word}
-use Rattle.layout.specs.Lists.{filled}
+use lib.Seq.{getD-set-same, getD-set-other, set-set}
+use Rattle.semantics.specs.Words.{Words, word, least-below}
+use Rattle.semantics.specs.Check.{Verdict, passes, refused, each}
+use Rattle.semantics.proofs.Passed.{or-else-passes}
+use Rattle.layout.specs.Lists.{filled, passed-below}
+use Rattle.layout.specs.Types.{Tabulated}
 
 module _ (l : Words) (at : ℕ) (g : ℕ → ℕ) where
   pub filled-none : filled l at 0 g ≡ l
@@ -39,3 +43,35 @@ module _ (l : Words) (at : ℕ) (g : ℕ → ℕ) where
       go : Dec (i ≡ n) → (i < n → word (filled l at n g) k ≡ g i) → word (set (filled l at n g) (at + n) (g n)) k ≡ g i
       go (yes q) below = rw (e, q) (getD-set-same (filled l at n g) (at + n) (g n) 0 (omega (arith, filled-length n)))
       go (no q) below = getD-set-other (filled l at n g) (at + n) k (g n) 0 (λ z. omega arith) ∙ below (omega arith)
+
+-- What its first word was before makes no difference.
+pub filled-again : (l : Words) (n v : ℕ) (g : ℕ → ℕ) → filled (set l 0 v) 0 (n + 1) g ≡ filled l 0 (n + 1) g
+unfolding filled
+filled-again l n v g = rw (add-one n) (go n)
+  where
+    go : (n : ℕ) → filled (set l 0 v) 0 (suc n) g ≡ filled l 0 (suc n) g
+    go zero = set-set l 0 v (g 0)
+    go (suc n) = ap (λ (k : Words). set k (0 + suc n) (g (suc n))) (go n)
+
+-- A list that is filled from its start.
+pub filled-tabulated : (l : Words) (n : ℕ) (g : ℕ → ℕ) {l′ : Words} → n < length l → l′ ≡ filled l 0 (n + 1) g → Tabulated l′ n g
+filled-tabulated l n g h e = record { holds = λ k less. rw e (filled-at l 0 g (n + 1) k k (omega arith) (omega arith) (omega arith)) }
+
+-- ---- the first that is refused
+
+module _ (f : ℕ → Verdict) where
+  pub passed-all : (n : ℕ) → each n f ≡ passes → passed-below n f ≡ n
+  unfolding passed-below least-below each
+  passed-all zero e = refl
+  passed-all (suc n) e =
+      let p = or-else-passes (each n f) (f n) e in
+      rw (passed-all n (p .0), le-ltb n n (omega arith), p .1)
+
+  pub passed-to : (i n : ℕ) {a p : ℕ} → each i f ≡ passes → i < n → f i ≡ refused a p → passed-below n f ≡ i
+  unfolding passed-below least-below
+  passed-to i zero before h r = absurd (not-suc-le-zero h)
+  passed-to i (suc n) before h r = go (ℕ-discrete i n) (λ (less : i < n). passed-to i n before less r)
+    where
+      go : Dec (i ≡ n) → (i < n → passed-below n f ≡ i) → passed-below (suc n) f ≡ i
+      go (yes q) below = rw (← q, passed-all i before, le-ltb i i (omega arith), r)
+      go (no q) below = let less : i < n = omega arith in rw (below less, lt-ltb i n less)

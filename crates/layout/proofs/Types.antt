@@ -17,9 +17,11 @@ use Rattle.semantics.proofs.Tests.{and-true, or-true}
 use Rattle.semantics.proofs.Lists.{sum-below-≤, any-least}
 use Rattle.semantics.proofs.Passed.{Types-passed, section-ok, fields-in}
 use Rattle.layout.specs.Layout.{Stands}
-use Rattle.layout.specs.Types.{types-fault, slot, mark-below, Tabulated, Record-in, Marks}
+use Rattle.layout.specs.Types.{types-fault, slot, mark-below, Tabulated, Record-in, Marks, marked, first-left, entry-left}
+use Rattle.layout.specs.Lists.{filled, by-verdict, passed-below}
 use Rattle.layout.specs.declared.Section.{Section}
-use Rattle.layout.proofs.Laws.{require-holds, require-refuses, or-else-pass, or-else-refuse, sum-more, place-at, item-at}
+use Rattle.layout.proofs.Laws.{require-holds, require-refuses, or-else-pass, or-else-refuse, or-else-assoc, sum-more, place-at, item-at}
+use Rattle.layout.proofs.Lists.{passed-to, passed-all}
 
 -- ---- known types and targets
 
@@ -232,6 +234,19 @@ pub marks-none : (t entry : Words) → entry ≡ replicate 98 0 → Marks t entr
 unfolding mark-below entry-below least-below
 marks-none t entry e = record { mark-is = λ x m. rw e (zeros 98 (slot x)) }
 
+-- One entry more is noted, and all are before the first at fault.
+pub marked-more : (t l : Words) (i k v : ℕ) {entry : Words} → k ≡ slot (item t pointers i 0) → v ≡ 2 + i → entry ≡ marked t i l → set entry k v ≡ marked t (i + 1) l
+unfolding marked
+marked-more t l i k v at noted e = rw (add-one i, at, noted, e)
+
+pub marked-to : (t l : Words) (i : ℕ) {entry : Words} {a p : ℕ} → each i (pointer-fault t) ≡ passes → i < count t pointers → pointer-fault t i ≡ refused a p
+    → entry ≡ marked t i l → entry ≡ marked t (passed-below (count t pointers) (pointer-fault t)) l
+marked-to t l i before less fault e = rw (passed-to (pointer-fault t) i (count t pointers) before less fault) e
+
+pub marked-all : (t l : Words) {i : ℕ} {entry : Words} → i ≡ count t pointers → each i (pointer-fault t) ≡ passes → entry ≡ marked t i l
+    → entry ≡ marked t (passed-below (count t pointers) (pointer-fault t)) l
+marked-all t l {i} n before e = rw (← n, passed-all (pointer-fault t) i before) e
+
 -- ---- the sections in turn
 
 refused-first : (u v w : Verdict) {n p : ℕ} → refused n p ≡ u → w ≡ u or-else v → refused n p ≡ w
@@ -245,6 +260,14 @@ module _ (t : Words) where
   module _ (records-pass : passes ≡ each (count t records) (record-fault t)) where
     past-records : (v : Verdict) → each (count t records) (record-fault t) or-else v ≡ v
     past-records v = or-else-pass (each (count t records) (record-fault t)) v (sym records-pass)
+
+    pub wrong-sum : (p : ℕ) → p ≡ count-place t fields → (first-field t (count t records) ≡ count t fields → ⊥) → each (count t records) (record-fault t) or-else field-sum-fault t ≡ refused 4 p
+    unfolding field-sum-fault
+    wrong-sum p place wrong = past-records _ ∙ rw place (require-refuses _ 4 (count-place t fields) (ne-eqb _ _ wrong))
+
+    pub right-sum : first-field t (count t records) ≡ count t fields → each (count t records) (record-fault t) or-else field-sum-fault t ≡ passes
+    unfolding field-sum-fault
+    right-sum e = past-records _ ∙ require-holds _ 4 (count-place t fields) (eq-eqb _ _ e)
 
     pub sum-refused : (p : ℕ) → p ≡ count-place t fields → (first-field t (count t records) ≡ count t fields → ⊥) → refused 4 p ≡ types-fault t
     unfolding types-fault field-sum-fault
@@ -268,3 +291,31 @@ module _ (t : Words) where
 
         pub past-pointers : passes ≡ each (count t pointers) (pointer-fault t) → each (count t variables) (variable-fault t) ≡ types-fault t
         past-pointers pointers-pass = sym (past-fields ∙ or-else-pass (each (count t pointers) (pointer-fault t)) _ (sym pointers-pass))
+
+-- ---- what is left in the lists
+
+-- Both lists, where the check ended or came to its end.
+abbrev pub Lists-left : Words → Words → Words → Words → Words → Type 0
+Lists-left t first first′ entry entry′ = (first′ ≡ first-left t first) × (entry′ ≡ entry-left t entry)
+
+module _ (t first entry : Words) where
+  -- A record or their sum is refused.
+  pub none-left : {n p : ℕ} → each (count t records) (record-fault t) or-else field-sum-fault t ≡ refused n p → Lists-left t first first entry entry
+  unfolding first-left entry-left
+  none-left e = (rw e, rw (← (or-else-assoc (each (count t records) (record-fault t)) (field-sum-fault t) (each (count t fields) (field-fault t))), or-else-refuse (each (count t records) (record-fault t) or-else field-sum-fault t) _ e))
+
+  module _ (e : each (count t records) (record-fault t) or-else field-sum-fault t ≡ passes) {first′ : Words} (h : first′ ≡ filled first 0 (count t records + 1) (first-field t)) where
+    by-fields : entry-left t entry ≡ by-verdict (each (count t fields) (field-fault t)) (marked t (passed-below (count t pointers) (pointer-fault t)) entry) entry
+    unfolding entry-left
+    by-fields = rw (← (or-else-assoc (each (count t records) (record-fault t)) (field-sum-fault t) (each (count t fields) (field-fault t))), or-else-pass (each (count t records) (record-fault t) or-else field-sum-fault t) _ e)
+
+    -- A field is refused.
+    pub first-alone : {n p : ℕ} → each (count t fields) (field-fault t) ≡ refused n p → Lists-left t first first′ entry entry
+    unfolding first-left
+    first-alone q = (rw e h, rw (by-fields, q))
+
+    -- Pointers were come to.
+    pub both-left : {entry′ : Words} → each (count t fields) (field-fault t) ≡ passes → entry′ ≡ marked t (passed-below (count t pointers) (pointer-fault t)) entry
+        → Lists-left t first first′ entry entry′
+    unfolding first-left
+    both-left q k = (rw e h, rw (by-fields, q) k)

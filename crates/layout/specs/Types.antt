@@ -1,12 +1,13 @@
 -- The check of sections 1 to 4 and what it notes for the check of nodes.
-use Prim.Native.Nat.{ℕ, _+_, _-_, _≤_, _<_}
+use Prim.Native.Nat.{ℕ, zero, suc, _+_, _-_, _≤_, _<_}
 use mathlib.Core.Bool.{true}
 use mathlib.Core.Path.{_≡_}
 use lib.Dec.{ltb}
-use lib.ListN.{length, replicate}
+use lib.ListN.{length, set, replicate}
 use Rattle.semantics.specs.Words.{Words, word, if_then_else_}
-use Rattle.semantics.specs.Table.{records, fields, pointers, variables, count, record-target, known-target, entry-type, entry-below, field-total, first-field}
+use Rattle.semantics.specs.Table.{records, fields, pointers, variables, count, item, record-target, known-target, entry-type, entry-below, field-total, first-field}
 use Rattle.layout.specs.Layout.{verdict-of}
+use Rattle.layout.specs.Lists.{filled, by-verdict, passed-below}
 use Rattle.layout.specs.declared.Verdict as answer
 use Rattle.semantics.specs.Check.{Verdict, passes, _or-else_, each, record-fault, field-sum-fault, field-fault, pointer-fault, variable-fault}
 
@@ -49,6 +50,22 @@ pub record Marks (t entry : Words) (n : ℕ) : Type 0 where
 pub record Room (first entry : Words) : Type 0 where
   pub first-length : length first ≡ 33
   pub entry-clear : entry ≡ replicate 98 0
+
+-- The list with the first n entries noted, each at its target.
+unfoldable pub marked : Words → ℕ → Words → Words
+marked t zero l = l
+marked t (suc n) l = set (marked t n l) (slot (item t pointers n 0)) (entry-type n)
+
+-- What the check leaves of first fields: those of all records, and their number after the last, where the records and their sum pass.
+unfoldable pub first-left : Words → Words → Words
+first-left t l = by-verdict (each (count t records) (record-fault t) or-else field-sum-fault t) (filled l 0 (count t records + 1) (first-field t)) l
+
+-- And of pointers: where records, sum and fields pass, the entries before the first at fault.
+unfoldable pub entry-left : Words → Words → Words
+entry-left t l =
+    by-verdict (each (count t records) (record-fault t) or-else field-sum-fault t or-else each (count t fields) (field-fault t))
+    (marked t (passed-below (count t pointers) (pointer-fault t)) l)
+    l
 
 -- The answer is the verdict v, and where that passes P holds.
 pub record Checked (r : answer.Verdict) (v : Verdict) (P : Type 0) : Type 0 where

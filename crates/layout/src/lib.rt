@@ -6,7 +6,8 @@ ghost use Rattle.semantics.specs.Words.{Words, word};
 ghost use Rattle.semantics.specs.Table.{count-place, count, entry-words, limits, known-type, known-target, first-field};
 ghost use Rattle.semantics.specs.Check.{each, section-fault, record-fault, field-fault, pointer-fault, variable-fault};
 ghost use Rattle.layout.specs.Layout.{verdict-of, section-by, parsed, Stands, Laid-out};
-ghost use Rattle.layout.specs.Types.{types-fault, slot, Tabulated, Marks, Room, Checked, Looked-up};
+ghost use Rattle.layout.specs.Lists.{filled, passed-below};
+ghost use Rattle.layout.specs.Types.{types-fault, slot, Marks, Room, marked, first-left, entry-left, Checked, Looked-up};
 
 // Where a section's first entry stands, and how many entries it has.
 pub struct Section {
@@ -208,7 +209,7 @@ fn total_fields(t: &[u32], records: Section) -> usize
 fn note_first(t: &[u32], records: Section, first: &mut [u32; 33])
     requires { ⌜ Stands (now t) 0 records ⌝ }
     requires { ⌜ (first-field (now t) (count (now t) 0) ≤ 128) × (length (now first) ≡ 33) ⌝ }
-    ensures { λ r. ⌜ Tabulated (now (first .exit)) (count (now (t .entry)) 0) (first-field (now (t .entry))) ⌝ }
+    ensures { λ r. ⌜ now (first .exit) ≡ filled (now (first .entry)) 0 (count (now (t .entry)) 0 + 1) (first-field (now (t .entry))) ⌝ }
 {
     let at = records.at;
     let last = records.count;
@@ -241,10 +242,11 @@ fn check_fields(t: &[u32], fields: Section, pointers: usize) -> Verdict
     Verdict::Passes
 }
 
-// 5 and 6 for the first pointer with an unknown target or one seen before. Notes the pointer to each target.
+// 5 and 6 for the first pointer with an unknown target or one seen before. Notes the pointer to each target before it.
 fn check_pointers(t: &[u32], pointers: Section, records: usize, entry: &mut [u32; 98]) -> Verdict
     requires { ⌜ (Stands (now t) 2 pointers) × (records ≡ count (now t) 0) × (records ≤ 32) × (now entry ≡ replicate 98 0) ⌝ }
-    ensures { λ r. ⌜ Checked r (each (count (now (t .entry)) 2) (pointer-fault (now (t .entry)))) (Marks (now (t .entry)) (now (entry .exit)) (count (now (t .entry)) 2)) ⌝ }
+    ensures found { λ r. ⌜ Checked r (each (count (now (t .entry)) 2) (pointer-fault (now (t .entry)))) (Marks (now (t .entry)) (now (entry .exit)) (count (now (t .entry)) 2)) ⌝ }
+    ensures lists { λ r. ⌜ now (entry .exit) ≡ marked (now (t .entry)) (passed-below (count (now (t .entry)) 2) (pointer-fault (now (t .entry)))) (now (entry .entry)) ⌝ }
 {
     let at = pointers.at;
     let count = pointers.count;
@@ -281,11 +283,13 @@ fn check_variables(t: &[u32], variables: Section, pointers: usize) -> Verdict
     Verdict::Passes
 }
 
-// Refusals 4 to 6 of sections 1 to 4. Where these pass, the two lists are filled with what the check of nodes looks up.
+// Refusals 4 to 6 of sections 1 to 4. Where these pass, the two lists are filled with what the check of nodes looks up; where one is
+// refused, they are as they were, or filled as far as the check had come.
 pub fn check_types(t: &[u32], l: Table, first: &mut [u32; 33], entry: &mut [u32; 98]) -> Verdict
     requires { ⌜ Laid-out (now t) l ⌝ }
     requires { ⌜ Room (now first) (now entry) ⌝ }
-    ensures { λ r. ⌜ Checked r (types-fault (now (t .entry))) (Looked-up (now (t .entry)) (now (first .exit)) (now (entry .exit))) ⌝ }
+    ensures found { λ r. ⌜ Checked r (types-fault (now (t .entry))) (Looked-up (now (t .entry)) (now (first .exit)) (now (entry .exit))) ⌝ }
+    ensures lists { λ r. ⌜ (now (first .exit) ≡ first-left (now (t .entry)) (now (first .entry))) × (now (entry .exit) ≡ entry-left (now (t .entry)) (now (entry .entry))) ⌝ }
 {
     let records = l.records;
     let fields = l.fields;

@@ -16,20 +16,16 @@ use Rattle.semantics.proofs.Passed.{or-else-passes, require-passes, each-passes
 use Rattle.semantics.proofs.Trees.{is-child-true, types-known}
 use Rattle.semantics.proofs.Depth.{shallow}
 use Rattle.layout.specs.Layout.{verdict-of}
+use Rattle.layout.specs.Lists.{by-verdict}
 use Rattle.layout.specs.declared.Verdict as answer
 use Rattle.layout.specs.declared.Verdict.the-variants as the
-use Rattle.layout.proofs.Laws.{require-holds, or-else-pass}
+use Rattle.layout.proofs.Laws.{require-holds, or-else-pass, or-else-assoc}
 use Rattle.nodes.specs.Nodes.{typed-by, type-found, kind-fault, typed-kind, known-fault, field-found, sort-number, note}
-use Rattle.nodes.specs.Promises.{Placed, Reached, typed-verdict, Small, Entered, Counted, Countable, Countable-both, Room, Told, Noted}
+use Rattle.nodes.specs.Promises.{Placed, Reached, typed-verdict, Small, note-added, Counted, Countable, Countable-both, Room, Told, Noted}
 use Rattle.nodes.specs.declared.Typed.{Typed}
 use Rattle.nodes.specs.declared.Typed.the-variants.{Is, Refused}
 use Rattle.nodes.proofs.Lookups.{few-pointers}
 use Rattle.nodes.proofs.Sorts.{child-known, child-type, child-same}
-
-pub or-else-assoc : (u v w : Verdict) → (u or-else v) or-else w ≡ u or-else (v or-else w)
-unfolding _or-else_
-or-else-assoc passes v w = refl
-or-else-assoc (refused n p) v w = refl
 
 -- What an answer of a verdict's form says of the verdict.
 pub verdict-refuses : {r : answer.Verdict} {v : Verdict} {n p : ℕ} → verdict-of r ≡ v → r ≡ the.Refused n p → v ≡ refused n p
@@ -102,6 +98,9 @@ module _ {t notes : Words} {n place : ℕ} (h : Reached t notes n place) where
 
 -- ---- the whole node
 
+pub counted-none : (used : Words) → Counted used used []
+counted-none used = record { all = refl; more = λ i. omega arith }
+
 or-else-none : (u : Verdict) → u or-else passes ≡ u
 unfolding _or-else_
 or-else-none passes = refl
@@ -139,10 +138,7 @@ module _ {t notes : Words} {n place : ℕ} (h : Reached t notes n place) where
   unknown-refused e = rw (without-depth t n (h .few), kind-at, e, h .here)
 
   pub unknown-noted : kind-of (word t place) ≡ unknown → {used : Words} → Noted t n (the.Refused 7 place) notes notes used used
-  unknown-noted e = record { verdict = sym (unknown-refused e); entered = λ p. absurd (never (sym (unknown-refused e) ∙ p)); counted = λ p. absurd (never (sym (unknown-refused e) ∙ p)) }
-    where
-      never : refused 7 place ≡ passes → ⊥
-      never p = let z : _≡_ {A = ℕ} 0 1 = cc in omega arith
+  unknown-noted e {used} = record { verdict = sym (unknown-refused e); noted = rw (unknown-refused e); counted = rw (unknown-refused e) (counted-none used) }
 
   -- A node of kind k, from what its check answered.
   module _ (k : Kind) (e : kind-of (word t place) ≡ k) (s : same-sort neither (sort-of k) ≡ false) {x : Typed} (q : x ≡ typed-kind t n k (word t (place + 1)) (word t (place + 2))) where
@@ -154,9 +150,14 @@ module _ {t notes : Words} {n place : ℕ} (h : Reached t notes n place) where
     unfolding typed-kind
     verdict-same = rw (q, same-fault) (verdict-is (kind-fault t n k (word t (place + 1)) (word t (place + 2))) (type-found t n k (word t (place + 1)) (word t (place + 2))))
 
-    is-typed : node-fault t n ≡ passes → x ≡ Is (type-found t n k (word t (place + 1)) (word t (place + 2)))
-    unfolding typed-kind
-    is-typed p = rw (q, sym same-fault ∙ p)
+    note-is : (notes₀ : Words) → note-added x (word t place) n notes₀ ≡ by-verdict (node-fault t n) (set notes₀ n (note t n)) notes₀
+    unfolding typed-kind note node-type type-rule
+    note-is notes₀ =
+        rw (q, same-fault, kind-at, a-at, b-at, e) (note-by (kind-fault t n k (word t (place + 1)) (word t (place + 2))) (type-found t n k (word t (place + 1)) (word t (place + 2))) k e)
+      where
+        note-by : (v : Verdict) (ty : ℕ) (k : Kind) → kind-of (word t place) ≡ k → note-added (typed-by v ty) (word t place) n notes₀ ≡ by-verdict v (set notes₀ n (ty + sort-number (sort-of k))) notes₀
+        note-by passes ty k e = rw e
+        note-by (refused a b) ty k e = refl
 
     pub small-type : Small x
     unfolding typed-kind known-type node-type type-rule each
@@ -175,12 +176,12 @@ module _ {t notes : Words} {n place : ℕ} (h : Reached t notes n place) where
 
     pub noted : {l : Words} {r : answer.Verdict} {notes′ used used′ : Words} → l ≡ child (operand-a k) (word t (place + 1)) ++ child (operand-b k) (word t (place + 2))
         → Told x (word t place) n l r notes notes′ used used′ → Noted t n r notes notes′ used used′
-    unfolding note node-type type-rule children
+    unfolding children
     noted hl told =
         record {
           verdict = told .verdict ∙ verdict-same;
-          entered = λ p. rw (kind-at, a-at, b-at, e) (rw e at (told .entered _ (is-typed p)));
-          counted = λ p. rw (kind-at, a-at, b-at, e, ← hl) (told .counted _ (is-typed p));
+          noted = told .noted ∙ note-is notes;
+          counted = rw (kind-at, a-at, b-at, e, ← hl) (rw verdict-same at (told .counted));
         }
 
     -- What passes has the child a, whose uses can be counted.
@@ -203,9 +204,6 @@ countable {x = x} h few less = record { room = h .uses-length; inside = omega ar
 pub countable-both : {notes used : Words} {n x y : ℕ} → Room notes used → n < 512 → x < n → y < n → Countable-both used x y
 countable-both {y = y} h few less less′ = record { first = countable h few less; inside = omega arith; few = h .few y }
 
-pub counted-none : (used : Words) → Counted used used []
-counted-none used = record { all = refl; more = λ i. omega arith }
-
 pub counted-one : (used : Words) (x i v : ℕ) → i ≡ x → x < length used → v ≡ word used i + 1 → Counted used (set used i v) (x ∷ [])
 counted-one used x i v e h q = record { all = length-set used i v; more = λ j. go j (ℕ-discrete j i) }
   where
@@ -226,35 +224,26 @@ countable-next {used} {used′} {x} {y} h more = record { room = more .all ∙ h
 
 -- ---- telling an answer
 
-pub entered : (notes : Words) (n v : ℕ) → n < length notes → Entered notes (set notes n v) n v
-entered notes n v h = record { all = length-set notes n v; kept = λ m l. getD-set-other notes n m v 0 (λ e. omega arith); added = getD-set-same notes n v 0 h }
-
 module _ {x : Typed} {kind n : ℕ} where
-  pub told-refused : {r p : ℕ} {l notes notes′ used used′ : Words} → x ≡ Refused r p → Told x kind n l (the.Refused r p) notes notes′ used used′
-  told-refused e =
-      record { verdict = rw e; entered = λ ty i. absurd (let z : _≡_ {A = ℕ} 0 1 = cc in omega arith); counted = λ ty i. absurd (let z : _≡_ {A = ℕ} 0 1 = cc in omega arith) }
+  pub told-refused : {r p : ℕ} {l notes used : Words} → x ≡ Refused r p → Told x kind n l (the.Refused r p) notes notes used used
+  told-refused {used = used} e = record { verdict = rw e; noted = rw e; counted = rw e (counted-none used) }
 
   -- What was told before uses are counted stays so.
   pub told-more : {v : answer.Verdict} {l l′ notes notes′ used used₁ used₂ used₃ : Words} → Told x kind n l v notes notes′ used used₁ → v ≡ the.Passes → Counted used₂ used₃ l′
       → Told x kind n l′ the.Passes notes notes′ used₂ used₃
-  told-more t e more = record { verdict = ap verdict-of (sym e) ∙ t .verdict; entered = t .entered; counted = λ ty i. more }
+  told-more t e more =
+      let passed = ap verdict-of (sym e) ∙ t .verdict in
+      record { verdict = passed; noted = t .noted; counted = rw (← passed) more }
 
-  pub told-is : {v ty : ℕ} {notes used : Words} → x ≡ Is ty → v ≡ ty + sort-number (sort-of (kind-of kind)) → n < length notes → Told x kind n [] the.Passes notes (set notes n v) used used
-  told-is {v} {ty} {notes} {used} e q h =
-      record {
-        verdict = rw e;
-        entered = λ y i. let same : y ≡ ty = cc in rw (same, ← q) (entered notes n v h);
-        counted = λ y i. counted-none used;
-      }
+  pub told-is : {v ty : ℕ} {notes used : Words} → x ≡ Is ty → v ≡ ty + sort-number (sort-of (kind-of kind)) → Told x kind n [] the.Passes notes (set notes n v) used used
+  told-is {used = used} e q = record { verdict = rw e; noted = rw (e, q); counted = rw e (counted-none used) }
 
-  pub told-other : {r p : ℕ} {v : answer.Verdict} {l l′ notes notes′ notes₁ notes₂ used used′ used₁ used₂ : Words} → Told x kind n l v notes notes′ used used′ → v ≡ the.Refused r p
-      → Told x kind n l′ (the.Refused r p) notes₁ notes₂ used₁ used₂
-  told-other t e = told-refused (refused-typed x (sym (t .verdict) ∙ ap verdict-of e))
-    where
-      refused-typed : (y : Typed) {r p : ℕ} → typed-verdict y ≡ refused r p → y ≡ Refused r p
-      refused-typed (Is ty) q = absurd (let z : _≡_ {A = ℕ} 0 1 = cc in omega arith)
-      refused-typed (Refused a b) q = cc
+  pub told-other : {r p : ℕ} {v : answer.Verdict} {l l′ notes notes′ used used′ : Words} → Told x kind n l v notes notes′ used used′ → v ≡ the.Refused r p
+      → Told x kind n l′ (the.Refused r p) notes notes′ used used′
+  told-other t e =
+      let refuses = ap verdict-of (sym e) ∙ t .verdict in
+      record { verdict = refuses; noted = t .noted; counted = rw (← refuses) (rw (← refuses) at (t .counted)) }
 
-pub type-of-passed : (x : Typed) → typed-verdict x ≡ passes → (ty : ℕ) × (x ≡ Is ty)
-type-of-passed (Is ty) e = (ty, refl)
-type-of-passed (Refused n p) e = absurd (let z : _≡_ {A = ℕ} 0 1 = cc in omega arith)
+  -- The children are counted where the answer is a type.
+  pub told-counted : {v : answer.Verdict} {l notes notes′ used used′ : Words} → Told x kind n l v notes notes′ used used′ → typed-verdict x ≡ passes → Counted used used′ l
+  told-counted t e = rw e at (t .counted)

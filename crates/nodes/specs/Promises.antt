@@ -2,12 +2,14 @@
 use Prim.Native.Nat.{ℕ, _+_, _≤_, _<_}
 use mathlib.Core.Bool.{true}
 use mathlib.Core.Path.{_≡_}
-use lib.ListN.{length}
+use mathlib.Core.List.{[]}
+use lib.ListN.{length, set}
 use Rattle.semantics.specs.Words.{Words, word}
 use Rattle.semantics.specs.Table.{records, fields, pointers, variables, nodes, count-place, count, item-place, known-type, first-field, sort-of, kind-of, children}
 use Rattle.semantics.specs.Check.{Verdict, passes, refused, each, node-fault, occurrences}
 use Rattle.semantics.proofs.Passed.{Types-passed}
 use Rattle.layout.specs.Layout.{verdict-of, Stands}
+use Rattle.layout.specs.Lists.{by-verdict}
 use Rattle.layout.specs.Types.{Tabulated, Marks}
 use Rattle.layout.specs.declared.Section.{Section}
 use Rattle.layout.specs.declared.Verdict as answer
@@ -69,11 +71,10 @@ typed-verdict (Refused n p) = refused n p
 pub record Small (x : Typed) : Type 0 where
   pub type-small : (ty : ℕ) → x ≡ Is ty → ty < 128
 
--- The note v of node n is added, and what stands before it is kept.
-pub record Entered (notes notes′ : Words) (n v : ℕ) : Type 0 where
-  pub all : length notes′ ≡ length notes
-  pub kept : (m : ℕ) → m < n → word notes′ m ≡ word notes m
-  pub added : word notes′ n ≡ v
+-- The list with the note of node n, of a kind with this number, where the answer is a type; else as it was.
+abbrev pub note-added : Typed → ℕ → ℕ → Words → Words
+note-added (Is ty) kind n notes = set notes n (ty + sort-number (sort-of (kind-of kind)))
+note-added (Refused r p) kind n notes = notes
 
 -- Each count rises by the occurrences in the list.
 pub record Counted (used used′ l : Words) : Type 0 where
@@ -98,14 +99,15 @@ pub record Room (notes used : Words) : Type 0 where
   pub uses-length : length used ≡ 512
   pub few : (i : ℕ) → word used i < 4095
 
--- The answer x to a node of a kind with this number is told, its note added, and its uses of the children l counted.
+-- The answer x to a node of a kind with this number is told. Where it is a type, the node's note is added and its uses of the children l are
+-- counted; where it is a refusal, no word has changed.
 pub record Told (x : Typed) (kind n : ℕ) (l : Words) (r : answer.Verdict) (notes notes′ used used′ : Words) : Type 0 where
   pub verdict : verdict-of r ≡ typed-verdict x
-  pub entered : (ty : ℕ) → x ≡ Is ty → Entered notes notes′ n (ty + sort-number (sort-of (kind-of kind)))
-  pub counted : (ty : ℕ) → x ≡ Is ty → Counted used used′ l
+  pub noted : notes′ ≡ note-added x kind n notes
+  pub counted : Counted used used′ (by-verdict (typed-verdict x) l [])
 
--- The whole check of node n: where it passes, its note is added and its uses of children are counted.
+-- The whole check of node n: where it passes, its note is added and its uses of children are counted; where it doesn't, no word has changed.
 pub record Noted (t : Words) (n : ℕ) (r : answer.Verdict) (notes notes′ used used′ : Words) : Type 0 where
   pub verdict : verdict-of r ≡ node-fault t n
-  pub entered : node-fault t n ≡ passes → Entered notes notes′ n (note t n)
-  pub counted : node-fault t n ≡ passes → Counted used used′ (children t n)
+  pub noted : notes′ ≡ by-verdict (node-fault t n) (set notes n (note t n)) notes
+  pub counted : Counted used used′ (by-verdict (node-fault t n) (children t n) [])

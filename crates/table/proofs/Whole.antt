@@ -8,17 +8,14 @@ use Rattle.semantics.specs.Table.{records, fields, pointers, variables, nodes, 
 use Rattle.semantics.specs.Check.{Verdict, passes, refused, _or-else_, each, section-fault, words-over, record-fault, field-sum-fault, field-fault, pointer-fault, variable-fault, node-fault, command-fault, use-fault, uses, check}
 use Rattle.semantics.proofs.Passed.{or-else-passes, each-passes, Types-passed, section-ok, fields-in}
 use Rattle.layout.specs.Layout.{layout-by, parsed}
-use Rattle.layout.specs.Types.{types-fault}
+use Rattle.layout.specs.Lists.{by-verdict}
+use Rattle.layout.specs.Types.{types-fault, first-left}
 use Rattle.layout.specs.declared.Parsed.{Parsed}
 use Rattle.layout.specs.declared.Parsed.the-variants.{Refused}
-use Rattle.layout.proofs.Laws.{or-else-pass, or-else-refuse}
+use Rattle.layout.proofs.Laws.{or-else-pass, or-else-refuse, or-else-assoc}
 use Rattle.sizes.specs.Sizes.{sizes-noted, offsets-noted}
 use Rattle.sizes.proofs.Sums.{size-at, offset-at}
-use Rattle.nodes.proofs.Answers.{or-else-assoc}
-use Rattle.table.specs.Promises.{Nodes-noted, Commands-counted, All-counted, Left, Checks}
-
-abbrev pub sections : Words → Verdict
-sections t = each 6 (section-fault t) or-else words-over t
+use Rattle.table.specs.Promises.{notes-noted, Nodes-noted, Commands-counted, All-counted, Left, sections-fault, Checks}
 
 abbrev pub all-nodes : Words → Verdict
 all-nodes t = each (count t nodes) (node-fault t)
@@ -31,16 +28,16 @@ all-uses t = each (count t nodes) (use-fault t)
 
 -- The first part that refuses is the refusal of the whole.
 module _ (t : Words) where
-  parts : check t ≡ sections t or-else types-fault t or-else all-nodes t or-else all-commands t or-else all-uses t
+  parts : check t ≡ sections-fault t or-else types-fault t or-else all-nodes t or-else all-commands t or-else all-uses t
   unfolding check types-fault
   parts = simp or-else-assoc
 
-  pub sections-refuse : {n p : ℕ} → sections t ≡ refused n p → check t ≡ refused n p
-  sections-refuse e = parts ∙ or-else-refuse (sections t) _ e
+  pub sections-refuse : {n p : ℕ} → sections-fault t ≡ refused n p → check t ≡ refused n p
+  sections-refuse e = parts ∙ or-else-refuse (sections-fault t) _ e
 
-  module _ (sections-pass : sections t ≡ passes) where
+  module _ (sections-pass : sections-fault t ≡ passes) where
     past-sections : check t ≡ types-fault t or-else all-nodes t or-else all-commands t or-else all-uses t
-    past-sections = parts ∙ or-else-pass (sections t) _ sections-pass
+    past-sections = parts ∙ or-else-pass (sections-fault t) _ sections-pass
 
     pub types-refuse : {n p : ℕ} → types-fault t ≡ refused n p → check t ≡ refused n p
     types-refuse e = past-sections ∙ or-else-refuse (types-fault t) _ e
@@ -62,7 +59,7 @@ module _ (t : Words) where
         pub past-commands : all-commands t ≡ passes → check t ≡ all-uses t
         past-commands e = past-nodes ∙ or-else-pass (all-commands t) _ e
 
-pub types-passed : (t : Words) → sections t ≡ passes → types-fault t ≡ passes → Types-passed t
+pub types-passed : (t : Words) → sections-fault t ≡ passes → types-fault t ≡ passes → Types-passed t
 unfolding types-fault
 types-passed t s e =
     let p0 = or-else-passes (each 6 (section-fault t)) (words-over t) s in
@@ -84,10 +81,6 @@ pub all-counted : {t notes used used′ : Words} → Nodes-noted t notes used (c
 unfolding uses
 all-counted h k = record { all = λ i. omega (arith, k .more i, h .counted i) }
 
--- A refusal promises nothing of the lists.
-pub refusal : {t first sizes offsets notes : Words} {n p : ℕ} → check t ≡ refused n p → Checks t first sizes offsets notes (Refused n p)
-refusal {t} e = record { answer = rw e; left = λ q. absurd (let z : _≡_ {A = ℕ} 0 1 = cc in omega arith) }
-
 -- What is noted of records has room.
 pub records-noted : {t sizes′ offsets′ : Words} (sizes offsets : Words) → Types-passed t → length sizes ≡ 32 → length offsets ≡ 128
     → sizes′ ≡ sizes-noted t (count t records) sizes → offsets′ ≡ offsets-noted t (count t records) offsets
@@ -98,9 +91,35 @@ records-noted {t} sizes offsets ok size-length offset-length e q = (
   λ r f less inside. rw q (offset-at t offsets (count t records) r f (omega (arith, fields-in ok r less, section-ok t 1 (ok .sections 1 (omega arith)) .limited)) less inside),
 )
 
-pub parsed-layout : (t : Words) → sections t ≡ passes → parsed t ≡ layout-by t passes
+pub parsed-layout : (t : Words) → sections-fault t ≡ passes → parsed t ≡ layout-by t passes
 unfolding parsed
 parsed-layout t e = rw e
 
-pub passes-with : {t first sizes offsets notes : Words} {r : Parsed} → check t ≡ passes → r ≡ layout-by t passes → Left t first sizes offsets notes → Checks t first sizes offsets notes r
-passes-with e q h = record { answer = rw e q; left = λ p. h }
+-- ---- the answer and the lists, where a part is refused and where all pass
+
+no-pass : {v : Verdict} {n p : ℕ} {P : Type 0} → v ≡ refused n p → v ≡ passes → P
+no-pass e q = absurd (let z : _≡_ {A = ℕ} 0 1 = cc in omega arith)
+
+module _ (t first sizes offsets notes : Words) where
+  pub sections-ended : {n p : ℕ} → sections-fault t ≡ refused n p → Checks t first first sizes sizes offsets offsets notes notes (Refused n p)
+  sections-ended e =
+      let whole = sections-refuse t e in
+      record { answer = rw whole; first-is = rw e; notes-is = rw (or-else-refuse (sections-fault t) (types-fault t) e); sizes-is = rw whole; offsets-is = rw whole; left = no-pass whole }
+
+  module _ (sections-pass : sections-fault t ≡ passes) {first′ : Words} (h : first′ ≡ first-left t first) where
+    pub types-ended : {n p : ℕ} → types-fault t ≡ refused n p → Checks t first first′ sizes sizes offsets offsets notes notes (Refused n p)
+    types-ended e =
+        let whole = types-refuse t sections-pass e in
+        record { answer = rw whole; first-is = rw sections-pass h; notes-is = rw (or-else-pass (sections-fault t) (types-fault t) sections-pass, e); sizes-is = rw whole; offsets-is = rw whole; left = no-pass whole }
+
+    module _ (types-pass : types-fault t ≡ passes) {notes′ : Words} (k : notes′ ≡ notes-noted t notes) where
+      notes-left : notes′ ≡ by-verdict (sections-fault t or-else types-fault t) (notes-noted t notes) notes
+      notes-left = rw (or-else-pass (sections-fault t) (types-fault t) sections-pass, types-pass) k
+
+      pub rest-ended : {n p : ℕ} → check t ≡ refused n p → Checks t first first′ sizes sizes offsets offsets notes notes′ (Refused n p)
+      rest-ended e = record { answer = rw e; first-is = rw sections-pass h; notes-is = notes-left; sizes-is = rw e; offsets-is = rw e; left = no-pass e }
+
+      pub all-passed : {sizes′ offsets′ : Words} {r : Parsed} → check t ≡ passes → r ≡ layout-by t passes
+          → sizes′ ≡ sizes-noted t (count t records) sizes → offsets′ ≡ offsets-noted t (count t records) offsets → Left t first′ sizes′ offsets′ notes′
+          → Checks t first first′ sizes sizes′ offsets offsets′ notes notes′ r
+      all-passed e q a b l = record { answer = rw e q; first-is = rw sections-pass h; notes-is = notes-left; sizes-is = rw e a; offsets-is = rw e b; left = λ p. l }

@@ -6,10 +6,12 @@ use lib.Dec.{eqb}
 use lib.ListN.{length}
 use Rattle.semantics.specs.Words.{Words, word, sum-below}
 use Rattle.semantics.specs.Table.{records, nodes, count, record-target, field-total, first-field, field-offset, size-of, place, value, children, node-type}
-use Rattle.semantics.specs.Check.{Verdict, passes, _or-else_, require, is-child, occurrences, command-place, command-value, uses, check}
+use Rattle.semantics.specs.Check.{Verdict, passes, _or-else_, require, each, section-fault, words-over, node-fault, is-child, occurrences, command-place, command-value, uses, check}
 use Rattle.layout.specs.Layout.{layout-by}
-use Rattle.layout.specs.Types.{Tabulated}
+use Rattle.layout.specs.Lists.{filled, by-verdict, passed-below}
+use Rattle.layout.specs.Types.{types-fault, Tabulated, first-left}
 use Rattle.layout.specs.declared.Parsed.{Parsed}
+use Rattle.sizes.specs.Sizes.{sizes-noted, offsets-noted}
 use Rattle.nodes.specs.Nodes.{note}
 use Rattle.nodes.specs.Promises.{Noted-to}
 
@@ -18,6 +20,10 @@ pub record Clear (notes used : Words) : Type 0 where
   pub notes-length : length notes ≡ 512
   pub uses-length : length used ≡ 512
   pub clear : (i : ℕ) → word used i ≡ 0
+
+-- The list with the notes of the nodes before the first at fault.
+unfoldable pub notes-noted : Words → Words → Words
+notes-noted t l = filled l 0 (passed-below (count t nodes) (node-fault t)) (note t)
 
 -- The nodes below n are noted, and their uses of each node are counted.
 pub record Nodes-noted (t notes used : Words) (n : ℕ) : Type 0 where
@@ -64,7 +70,16 @@ pub record Left (t first sizes offsets notes : Words) : Type 0 where
   pub size-is : (r : ℕ) → r < count t records → word sizes r ≡ size-of t (record-target r)
   pub offset-is : (r f : ℕ) → r < count t records → f < field-total t r → word offsets (first-field t r + f) ≡ field-offset t r f
 
--- The answer of the whole check.
-pub record Checks (t first sizes offsets notes : Words) (r : Parsed) : Type 0 where
+-- What is turned away of the sections, before anything is noted.
+abbrev pub sections-fault : Words → Verdict
+sections-fault t = each 6 (section-fault t) or-else words-over t
+
+-- The answer of the whole check, and what its lists hold then, whether it passes or not: where a part is refused, the lists of the parts after
+-- it are as they were.
+pub record Checks (t first first′ sizes sizes′ offsets offsets′ notes notes′ : Words) (r : Parsed) : Type 0 where
   pub answer : r ≡ layout-by t (check t)
-  pub left : check t ≡ passes → Left t first sizes offsets notes
+  pub first-is : first′ ≡ by-verdict (sections-fault t) (first-left t first) first
+  pub notes-is : notes′ ≡ by-verdict (sections-fault t or-else types-fault t) (notes-noted t notes) notes
+  pub sizes-is : sizes′ ≡ by-verdict (check t) (sizes-noted t (count t records) sizes) sizes
+  pub offsets-is : offsets′ ≡ by-verdict (check t) (offsets-noted t (count t records) offsets) offsets
+  pub left : check t ≡ passes → Left t first′ sizes′ offsets′ notes′

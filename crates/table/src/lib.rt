@@ -9,7 +9,7 @@ ghost use Rattle.semantics.proofs.Passed.{Types-passed};
 ghost use Rattle.layout.specs.Layout.{verdict-of, Stands, Laid-out};
 ghost use Rattle.layout.specs.Types.{Checked, Looked-up};
 ghost use Rattle.nodes.specs.Promises.{Noted-to};
-ghost use Rattle.table.specs.Promises.{Clear, Nodes-noted, command-verdict, Commands-ready, Commands-counted, All-counted, Lists-ready, Checks};
+ghost use Rattle.table.specs.Promises.{Clear, notes-noted, Nodes-noted, command-verdict, Commands-ready, Commands-counted, All-counted, Lists-ready, Checks};
 use layout::Parsed;
 use layout::Section;
 use layout::Table;
@@ -17,7 +17,7 @@ use layout::Verdict;
 use layout::index;
 use sizes::note_sizes;
 
-// 7, 5 and 8 for the first node at fault. Where all pass, each is noted, and its uses by nodes are counted.
+// 7, 5 and 8 for the first node at fault. The nodes before it are noted; where all pass, the uses by nodes are counted.
 fn check_nodes(
     t: &[u32],
     l: Table,
@@ -27,7 +27,8 @@ fn check_nodes(
     uses: &mut [u32; 512],
 ) -> Verdict
     requires { ⌜ (Laid-out (now t) l) × (Types-passed (now t)) × (Looked-up (now t) (now first) (now entry)) × (Clear (now notes) (now uses)) ⌝ }
-    ensures { λ r. ⌜ Checked r (each (count (now (t .entry)) nodes) (node-fault (now (t .entry)))) (Nodes-noted (now (t .entry)) (now (notes .exit)) (now (uses .exit)) (count (now (t .entry)) nodes)) ⌝ }
+    ensures found { λ r. ⌜ Checked r (each (count (now (t .entry)) nodes) (node-fault (now (t .entry)))) (Nodes-noted (now (t .entry)) (now (notes .exit)) (now (uses .exit)) (count (now (t .entry)) nodes)) ⌝ }
+    ensures lists { λ r. ⌜ now (notes .exit) ≡ notes-noted (now (t .entry)) (now (notes .entry)) ⌝ }
 {
     let records = l.records;
     let fields = l.fields;
@@ -148,7 +149,7 @@ pub fn check(
     notes: &mut [u32; 512],
 ) -> Parsed
     requires { ⌜ Lists-ready (now first) (now sizes) (now offsets) (now notes) ⌝ }
-    ensures { λ r. ⌜ Checks (now (t .entry)) (now (first .exit)) (now (sizes .exit)) (now (offsets .exit)) (now (notes .exit)) r ⌝ }
+    ensures { λ r. ⌜ Checks (now (t .entry)) (now (first .entry)) (now (first .exit)) (now (sizes .entry)) (now (sizes .exit)) (now (offsets .entry)) (now (offsets .exit)) (now (notes .entry)) (now (notes .exit)) r ⌝ }
 {
     let l = match Table::parse(t) {
         Parsed::Is(l) => l,

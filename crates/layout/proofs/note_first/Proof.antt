@@ -1,19 +1,19 @@
 -- `layout::note_first` meets its contract. The loop's invariant: the list is filled up to i. The sums fit since the last is at most 128.
 use Prim.Native.Nat.{_≤_, _+_, _-_}
-use mathlib.Core.Path.{_≡_, refl}
+use mathlib.Core.Path.{_≡_, refl, sym, ap, _∙_}
 use native.Mathlib.Omega.{arith}
 use denote.Ref.{now}
-use lib.ListN.{length, length-set}
+use lib.ListN.{length, set, length-set}
 use Rattle.semantics.specs.Words.{word, sum-below}
 use Rattle.semantics.specs.Table.{count, first-field}
-use Rattle.layout.specs.Types.{Tabulated}
-use Rattle.layout.proofs.Laws.{tabulated-none, tabulated-more, tabulated-all}
+use Rattle.layout.specs.Lists.{filled}
+use Rattle.layout.proofs.Lists.{filled-none, filled-more, filled-length, filled-again}
 use Rattle.layout.proofs.Types.{first-more, first-≤}
 use Rattle.layout.proofs.note_first.Statement.{statement}
 use Rattle.layout.proofs.note_first.Tie as tie
 
 abbrev Inv-loop : tie.InvT-loop
-Inv-loop t first₀ at count sum₀ i₀ first sum i = (i ≤ count) × (sum ≡ first-field t i) × (length first ≡ 33) × Tabulated first i (first-field t)
+Inv-loop t first₀ at count sum₀ i₀ first sum i = (i ≤ count) × (sum ≡ first-field t i) × (first ≡ filled first₀ 0 (i + 1) (first-field t))
 
 abbrev μ-loop : tie.MeasureT-loop
 μ-loop t first₀ at count sum₀ i₀ first sum i = count - i
@@ -24,7 +24,9 @@ element-write-first c = omega arith
 loop-holds : tie.Need-loop-holds Inv-loop μ-loop
 unfolding first-field sum-below
 loop-holds c =
-    (omega arith, refl, simp length-set (c .pre .1 .1), tabulated-none (now (c .args .first)) (first-field _) (omega (arith, c .pre .1 .1)) refl)
+    let l = now (c .args .first) in
+    let g = first-field (now (c .args .t)) in
+    (omega arith, refl, filled-more l 0 g 0 0 0 (sym (filled-none l 0 g)) refl refl ∙ sym (filled-again l 0 0 g))
 
 add-sum : tie.Need-add-sum Inv-loop μ-loop
 add-sum c = let h = c .before .before .pre .0 in omega arith
@@ -50,7 +52,12 @@ mul-first : tie.Need-mul-first Inv-loop μ-loop
 mul-first c = let h = c .before .before .before .pre .0 in omega arith
 
 element-write-first-2 : tie.Need-element-write-first-2 Inv-loop μ-loop
-element-write-first-2 c = let h = c .before .before .before .pre .0 in omega arith
+element-write-first-2 c =
+    let p = c .before .before .before .pre in
+    let h = p .0 in
+    let a = c .before .before .loop in
+    let l = now (c .before .before .before .args .first) in
+    omega (arith, p .1 .1, ap length (a .inv .2), filled-length (set l 0 0) 0 (first-field (now (c .before .before .before .args .t))) (a .i + 1), length-set l 0 0)
 
 add-i : tie.Need-add-i Inv-loop μ-loop
 add-i c = omega arith
@@ -66,10 +73,10 @@ loop-again c =
     let a = c .before .before .loop in
     let h = p .0 in
     let next : a .sum + word t (c .before .before .before .args .records .at + i) ≡ first-field t (i + 1) = omega (arith, first-more h i) in
-    (omega arith, next, simp length-set (a .inv .2), tabulated-more (a .first) i _ (first-field t) (omega arith) next (a .inv .3))
+    (omega arith, next, filled-more _ 0 (first-field t) (i + 1) (i + 1) _ (a .inv .2) (omega arith) next)
 
 returns : tie.Need-returns Inv-loop μ-loop
-returns c = let h = c .before .before .pre .0 in tabulated-all _ _ (omega arith) (c .before .loop .inv .3)
+returns c = let h = c .before .before .pre .0 in let all : c .before .loop .i ≡ count (now (c .before .before .args .t)) 0 = omega arith in rw all at (c .before .loop .inv .2) ∙ filled-again _ _ 0 _
 
 pub note-first-spec : {M : Type 1} → statement M
 note-first-spec =

@@ -11,7 +11,7 @@ add-notes : tie.Need-add-notes
 add-notes c = omega (arith, c .sort .ensures, sort-most (sort-of (kind-of (c .before .before .before .before .args .kind))), c .before .before .before .before .pre .1 .type-small _ (c .before .before .x .given .1))
 
 returns : tie.Need-returns
-returns c used = told-is (c .before .before .x .given .1) (rw (c .sort .ensures)) (omega (arith, c .before .before .before .before .pre .0, c .before .before .before .before .pre .2))
+returns c used = told-is (c .before .before .x .given .1) (rw (c .sort .ensures))
 
 returns-2 : tie.Need-returns-2
 returns-2 c used = told-refused (c .before .x2 .given .1)

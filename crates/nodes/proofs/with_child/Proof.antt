@@ -8,7 +8,7 @@ use Rattle.nodes.proofs.with_child.Statement.{statement}
 use Rattle.nodes.proofs.with_child.Tie as tie
 
 returns : tie.Need-returns
-returns c = told-other (c .before .before .before .enter .ensures []) (c .before .r .given .1)
+returns c = told-other (c .before .before .before .enter .ensures _) (c .before .r .given .1)
 
 count-use-requires : tie.Need-count-use-requires
 count-use-requires c κs = c .before .before .before .before .before .pre .3 (sym (c .before .before .before .enter .ensures [] .verdict) ∙ ap verdict-of (c .before .enum-told .given .1))

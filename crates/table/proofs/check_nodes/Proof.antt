@@ -3,23 +3,26 @@ use borrow.Author.Needs.{needs}
 use native.Mathlib.Omega.{arith}
 use denote.Ref.{now}
 use Prim.Native.Nat.{_-_, _≤_, _<_}
-use mathlib.Core.Path.{_≡_}
+use mathlib.Core.Path.{_≡_, sym}
 use Rattle.semantics.specs.Table.{count}
+use Rattle.layout.specs.Lists.{filled}
 use Rattle.layout.proofs.Laws.{refusal, each-refuses, each-all}
+use Rattle.layout.proofs.Lists.{filled-none}
+use Rattle.nodes.specs.Nodes.{note}
 use Rattle.nodes.proofs.Answers.{verdict-refuses, verdict-passes}
 use Rattle.table.specs.Promises.{Nodes-noted}
-use Rattle.table.proofs.Nodes.{nodes-none, reached, room, nodes-more}
+use Rattle.table.proofs.Nodes.{nodes-none, reached, room, nodes-more, notes-all, notes-more, notes-to}
 use Rattle.table.proofs.check_nodes.Statement.{statement}
 use Rattle.table.proofs.check_nodes.Tie as tie
 
 abbrev Inv-loop : tie.InvT-loop
-Inv-loop t first entry notes₀ uses₀ records fields pointers variables at count n₀ notes uses n = (n ≤ count) × Nodes-noted t notes uses n
+Inv-loop t first entry notes₀ uses₀ records fields pointers variables at count n₀ notes uses n = (n ≤ count) × (Nodes-noted t notes uses n) × (notes ≡ filled notes₀ 0 n (note t))
 
 abbrev μ-loop : tie.MeasureT-loop
 μ-loop t first entry notes₀ uses₀ records fields pointers variables at count n₀ notes uses n = count - n
 
 loop-holds : tie.Need-loop-holds Inv-loop μ-loop
-loop-holds c = (omega arith, nodes-none (c .before .before .before .before .before .before .pre .1) (c .before .before .before .before .before .before .pre .3))
+loop-holds c = (omega arith, nodes-none (c .before .before .before .before .before .before .pre .1) (c .before .before .before .before .before .before .pre .3), sym (filled-none _ 0 _))
 
 less : (c : tie.In-loop Inv-loop μ-loop) → c .before .loop .n < c .before .before .before .before .before .before .before .before .args .l .nodes .count
 less c = omega (arith, c .loop-test .taken)
@@ -41,18 +44,28 @@ check-node-requires c κs =
 
 returns : tie.Need-returns Inv-loop μ-loop
 returns c =
-    refusal
-    (each-refuses _ _ (c .before .before .before .before .before .before .before .loop .inv .1 .noted-to .nodes-pass) _ (omega (arith, c .before .before .before .before .before .before .before .before .before .before .before .before .before .before .pre .0 .nodes-stand .total, less (c .before .before .before .before .before .before))) (verdict-refuses (c .before .before .before .check-node .ensures .verdict) (c .before .r .given .1)))
+    let a = c .before .before .before .before .before .before .before .loop in
+    let passed = a .inv .1 .noted-to .nodes-pass in
+    let t = now (c .before .before .before .before .before .before .before .before .before .before .before .before .before .before .args .t) in
+    let inside : a .n < count t 4 = omega (arith, c .before .before .before .before .before .before .before .before .before .before .before .before .before .before .pre .0 .nodes-stand .total, less (c .before .before .before .before .before .before)) in
+    let h = c .before .before .before .check-node .ensures in
+    let fault = verdict-refuses (h .verdict) (c .before .r .given .1) in
+    (refusal (each-refuses _ _ passed _ inside fault), notes-to _ _ _ passed (a .inv .2) h inside fault)
 
 loop-again : tie.Need-loop-again Inv-loop μ-loop
 loop-again c =
-    (omega (arith, less (c .before .before .before .before .before)), nodes-more (c .before .before .before .before .before .before .before .before .before .before .before .before .before .pre .0 .nodes-stand) (less (c .before .before .before .before .before)) (c .before .before .before .before .before .before .loop .inv .1) (c .before .before .check-node .ensures) (verdict-passes (c .before .before .check-node .ensures .verdict) (c .enum-told .given .1)))
+    let a = c .before .before .before .before .before .before .loop in
+    let h = c .before .before .check-node .ensures in
+    let pass = verdict-passes (h .verdict) (c .enum-told .given .1) in
+    (omega (arith, less (c .before .before .before .before .before)), nodes-more (c .before .before .before .before .before .before .before .before .before .before .before .before .before .pre .0 .nodes-stand) (less (c .before .before .before .before .before)) (a .inv .1) h pass, notes-more _ _ _ (a .inv .1 .noted-to .nodes-pass) (a .inv .2) h pass)
 
 returns-2 : tie.Need-returns-2 Inv-loop μ-loop
 returns-2 c =
     let h = c .before .before .before .before .before .before .before .before .pre .0 .nodes-stand in
-    let n : c .before .loop .n ≡ count (now (c .before .before .before .before .before .before .before .before .args .t)) 4 = omega (arith, h .total) in
-    record { verdict = each-all _ _ _ n (c .before .loop .inv .1 .noted-to .nodes-pass); found = λ e. rw n at (c .before .loop .inv .1) }
+    let a = c .before .loop in
+    let n : a .n ≡ count (now (c .before .before .before .before .before .before .before .before .args .t)) 4 = omega (arith, h .total) in
+    let passed = a .inv .1 .noted-to .nodes-pass in
+    (record { verdict = each-all _ _ _ n passed; found = λ e. rw n at (a .inv .1) }, notes-all _ _ _ passed (a .inv .2) n)
 
 pub check-nodes-spec : {M : Type 1} → statement M
 check-nodes-spec =
