@@ -1,4 +1,5 @@
 // The bench program: reads a memory length, inputs and a table as decimal numbers, runs the table and prints how it ended.
+use console::Output;
 use libc::STDIN_FILENO;
 use text::Scanner;
 
@@ -46,16 +47,18 @@ fn main() {
     let mut values = [0u32; 4096];
     let mut bases = [0u32; 4096];
     let mut ends = [0u32; 4096];
-    let mut out = io::large_buffer();
+    // Room for the longest answer.
+    let mut out = [0u8; 344064];
     let s = read_all(&mut numbers);
-    let at = console::answer(
+    let r = console::answer(
         &mut numbers,
         s,
         &mut values,
         &mut bases,
         &mut ends,
         &mut out,
-        0,
     );
-    stream::flush(&out, at);
+    if let Output::Printed(n) = r {
+        stream::flush(&out, n);
+    }
 }

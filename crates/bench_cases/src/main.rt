@@ -1,41 +1,29 @@
 // Tests of the bench program: many of its texts on standard input, parted by the byte %. Each goes the way that `bench` sends its one
 // text, and what `bench` prints for each is printed in turn.
+use console::Output;
 use stream::Part;
 use text::Scanner;
-ghost use Prim.Native.Nat.{_≤_};
-ghost use lib.ListN.{length};
 
-// The scanner in the current text, and the next free place of the output.
-struct Progress {
-    scanner: Scanner,
-    at: usize,
-}
-
-// Scans a part of a text, and answers the text if it ends there.
+// Scans a part of a text, and answers the text if it ends there. Answers the scanner for the next part.
 fn take_part(
     part: &[u8],
     state: u32,
-    p: Progress,
+    s: Scanner,
     numbers: &mut [u32],
     values: &mut [u32],
     bases: &mut [u32],
     ends: &mut [u32],
     out: &mut [u8],
-) -> Progress
-    requires { ⌜ (4096 ≤ length (now values)) × (4096 ≤ length (now bases)) × (4096 ≤ length (now ends)) ⌝ }
-{
-    let s = text::scan(part, numbers, p.scanner);
+) -> Scanner {
+    let s = text::scan(part, numbers, s);
     if state == Part::OPEN {
-        return Progress {
-            scanner: s,
-            at: p.at,
-        };
+        return s;
     }
-    let at = console::answer(numbers, s, values, bases, ends, out, p.at);
-    Progress {
-        scanner: Scanner::new(),
-        at,
+    let r = console::answer(numbers, s, values, bases, ends, out);
+    if let Output::Printed(n) = r {
+        stream::flush(out, n);
     }
+    Scanner::new()
 }
 
 // Answers every text. A proved loop has to end, so this one counts its turns down from a number that no run uses up.
@@ -46,23 +34,18 @@ fn answer_all(
     bases: &mut [u32],
     ends: &mut [u32],
     out: &mut [u8],
-) -> usize
-    requires { ⌜ (4096 ≤ length (now values)) × (4096 ≤ length (now bases)) × (4096 ≤ length (now ends)) ⌝ }
-{
-    let mut p = Progress {
-        scanner: Scanner::new(),
-        at: 0,
-    };
+) {
+    let mut s = Scanner::new();
     let mut part = Part::new();
     let mut turns = u64::MAX;
     while turns > 0 && part.state != Part::LAST {
         part = stream::next_part(buffer, part, b'%');
         let from = part.from;
         let to = part.to;
-        p = take_part(
+        s = take_part(
             &buffer[from..to],
             part.state,
-            p,
+            s,
             numbers,
             values,
             bases,
@@ -71,7 +54,6 @@ fn answer_all(
         );
         turns -= 1;
     }
-    p.at
 }
 
 fn main() {
@@ -81,8 +63,9 @@ fn main() {
     let mut values = [0u32; 4096];
     let mut bases = [0u32; 4096];
     let mut ends = [0u32; 4096];
-    let mut out = io::large_buffer();
-    let at = answer_all(
+    // Room for the longest answer.
+    let mut out = [0u8; 344064];
+    answer_all(
         &mut buffer,
         &mut numbers,
         &mut values,
@@ -90,5 +73,4 @@ fn main() {
         &mut ends,
         &mut out,
     );
-    stream::flush(&out, at);
 }

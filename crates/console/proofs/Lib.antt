@@ -1,4 +1,2 @@
 -- Laws that the functions' proofs cite.
-pub mod Demands
-pub mod Lines
-pub mod Examples
+pub mod Calls

@@ -1,121 +1,35 @@
-// What the bench program does with a text of numbers: decides what it asks for, runs it and prints how it ended.
-use layout::index;
-use layout::long;
+// What the bench program does with a text of numbers: runs what they ask for, and prints how it ended.
+use lines::put_ending;
+use lines::put_word;
+use lines::unused_after;
 use machine::Answer;
-use stream::least;
-use stream::make_room;
-use stream::put_after;
+use request::Request;
 use text::Scanner;
-ghost use Prim.Native.Nat.{_+_, _*_, _≤_};
+ghost use Prim.Native.Nat.{_≤_, _-_};
 ghost use mathlib.Core.List.{[], _∷_};
 ghost use mathlib.Core.Path.{_≡_};
-ghost use lib.ListN.{length};
+ghost use lib.ListN.{length, take, drop};
 ghost use Rattle.machine.specs.Run.{answer-of};
-ghost use Rattle.stream.specs.Items.{word, number, Puts-items};
-ghost use Rattle.console.specs.Lines.{space, ending-line, unused, word-line, memory-lines, Prints};
-ghost use Rattle.console.specs.Request.{Requested};
+ghost use Rattle.semantics.specs.Run.{call};
+ghost use Rattle.stream.specs.Items.{Puts-items};
+ghost use Rattle.lines.specs.Lines.{unused, memory-lines, answer-lines};
+ghost use Rattle.console.specs.Output.{lists, call-in, has-room, Answers, Called, Ran};
 
-// What the numbers of a text ask for: a run in memory of some length, of the table that starts at some place; or they are no input.
-pub enum Request {
-    Run(usize, usize),
-    Malformed,
+// So many bytes are printed at the front of the output; or a list is too short, and nothing is done.
+pub enum Output {
+    Printed(usize),
+    TooShort,
 }
 
-impl Request {
-    // The most words of memory, inputs, and words of a table.
-    const MEMORY: u32 = 4096;
+impl Output {
+    // The words of each list of the program's own memory.
+    const MEMORY: usize = 4096;
 
-    const INPUTS: u32 = 64;
-
-    const TABLE: usize = 2470;
-
-    // The memory's length, the input count, the inputs, then the table.
-    pub fn of(numbers: &[u32], s: Scanner) -> Request
-        ensures { λ r. ⌜ Requested (now (numbers .entry)) s r ⌝ }
-    {
-        let count = s.count;
-        if s.state == Scanner::BAD {
-            return Request::Malformed;
-        }
-        if numbers.len() < count {
-            return Request::Malformed;
-        }
-        if count < 2 {
-            return Request::Malformed;
-        }
-        if Request::MEMORY < numbers[0] {
-            return Request::Malformed;
-        }
-        if Request::INPUTS < numbers[1] {
-            return Request::Malformed;
-        }
-        let from = 2 + index(numbers[1]);
-        if count < from {
-            return Request::Malformed;
-        }
-        if Request::TABLE < count - from {
-            return Request::Malformed;
-        }
-        Request::Run(index(numbers[0]), from)
-    }
+    // The bytes of the longest answer: 84 for each of 4,096 lines.
+    const ROOM: usize = 344064;
 }
 
-// A word and two numbers.
-fn put_pair(out: &mut [u8], at: usize, bytes: &[u8], x: u64, y: u64) -> usize
-    ensures { λ r. ⌜ Puts-items (word (now (bytes .entry)) ∷ number x ∷ space ∷ number y ∷ []) (now (out .entry)) at (now (out .exit)) r ⌝ }
-{
-    let at = put_after(out, at, bytes, x);
-    put_after(out, at, b" ", y)
-}
-
-// How a call ended, without the line's end.
-pub fn put_ending(out: &mut [u8], at: usize, a: Answer) -> usize
-    ensures { λ r. ⌜ Puts-items (ending-line (answer-of a)) (now (out .entry)) at (now (out .exit)) r ⌝ }
-{
-    match a {
-        Answer::Refused(number, place) => put_pair(
-            out,
-            at,
-            b"refused ",
-            long(number),
-            place as u64,
-        ),
-        Answer::Done(unused) => put_after(out, at, b"done ", long(unused)),
-        Answer::Abort(command, unused) => put_pair(out, at, b"abort ", long(command), long(unused)),
-        Answer::NoRoom(command, unused) => put_pair(
-            out,
-            at,
-            b"noroom ",
-            long(command),
-            long(unused),
-        ),
-    }
-}
-
-// U after a run; 0 after a refusal, which leaves no memory to print.
-pub fn unused_after(a: Answer) -> usize
-    ensures { λ r. ⌜ r ≡ unused (answer-of a) ⌝ }
-{
-    match a {
-        Answer::Refused(_, _) => 0,
-        Answer::Done(unused) => index(unused),
-        Answer::Abort(_, unused) => index(unused),
-        Answer::NoRoom(_, unused) => index(unused),
-    }
-}
-
-// The line of one word: address, value, base, end.
-fn put_word(out: &mut [u8], at: usize, address: usize, value: u32, base: u32, end: u32) -> usize
-    ensures { λ r. ⌜ Puts-items (word-line address value base end) (now (out .entry)) at (now (out .exit)) r ⌝ }
-{
-    let at = text::put_number(out, at, address as u64);
-    let at = put_after(out, at, b" ", long(value));
-    let at = put_after(out, at, b" ", long(base));
-    let at = put_after(out, at, b" ", long(end));
-    text::put_bytes(out, at, b"\n")
-}
-
-// The lines of the words from 1 to `unused` - 1. They stand in `out` where it has room for them all; else some are flushed.
+// The lines of the words from 1 to `unused` - 1.
 fn put_memory(
     out: &mut [u8],
     at: usize,
@@ -125,65 +39,85 @@ fn put_memory(
     ends: &[u32],
 ) -> usize
     requires { ⌜ (unused ≤ length (now values)) × (unused ≤ length (now bases)) × (unused ≤ length (now ends)) ⌝ }
-    ensures { λ r. ⌜ (at + 128 * unused ≤ length (now (out .entry)) → Puts-items (memory-lines unused (now (values .entry)) (now (bases .entry)) (now (ends .entry))) (now (out .entry)) at (now (out .exit)) r) ⌝ }
+    ensures { λ r. ⌜ Puts-items (memory-lines unused (now (values .entry)) (now (bases .entry)) (now (ends .entry))) (now (out .entry)) at (now (out .exit)) r ⌝ }
 {
     let mut at = at;
     for i in 1..unused {
-        at = make_room(out, at);
         at = put_word(out, at, i, values[i], bases[i], ends[i]);
     }
     at
 }
 
-// How a call ended, and after a run the memory, of which `memory` words were lent. All of it stands in `out` where there is room.
-fn put_answer(
-    out: &mut [u8],
-    at: usize,
-    a: Answer,
-    memory: usize,
-    values: &[u32],
-    bases: &[u32],
-    ends: &[u32],
-) -> usize
-    requires { ⌜ (memory ≤ length (now values)) × (memory ≤ length (now bases)) × (memory ≤ length (now ends)) ⌝ }
-    ensures { λ r. ⌜ Prints (answer-of a) memory (now (values .entry)) (now (bases .entry)) (now (ends .entry)) (now (out .entry)) at (now (out .exit)) r ⌝ }
+// How a call ended, and after a run the memory.
+fn put_answer(out: &mut [u8], a: Answer, values: &[u32], bases: &[u32], ends: &[u32]) -> usize
+    requires { ⌜ (unused (answer-of a) ≤ length (now values)) × (unused (answer-of a) ≤ length (now bases)) × (unused (answer-of a) ≤ length (now ends)) ⌝ }
+    ensures { λ r. ⌜ Puts-items (answer-lines (answer-of a) (now (values .entry)) (now (bases .entry)) (now (ends .entry))) (now (out .entry)) 0 (now (out .exit)) r ⌝ }
 {
-    let at = make_room(out, at);
-    let at = put_ending(out, at, a);
+    let at = put_ending(out, 0, a);
     let at = text::put_bytes(out, at, b"\n");
-    // U is never above the memory's length, so nothing is cut off: `least` stands for the proof of that.
-    let unused = least(unused_after(a), memory);
-    put_memory(out, at, unused, values, bases, ends)
+    put_memory(out, at, unused_after(a), values, bases, ends)
 }
 
-// Runs the table from `from` on, with the inputs before it and no registers, in the first `memory` words of the lists.
+// Runs a table in three lists, without registers, and prints how that ended. The bytes of the output are enough for the lists' words.
 fn run_and_print(
+    t: &[u32],
+    inputs: &[u32],
+    values: &mut [u32],
+    bases: &mut [u32],
+    ends: &mut [u32],
+    out: &mut [u8],
+) -> usize
+    requires { ⌜ (length (now values) ≤ 4096) × (344064 ≤ length (now out)) ⌝ }
+    ensures { λ r. ⌜ Called (call (now (t .entry)) (now (inputs .entry)) (0 ∷ []) (now (values .entry)) (now (bases .entry)) (now (ends .entry))) (now (out .entry)) (now (values .exit)) (now (bases .exit)) (now (ends .exit)) (now (out .exit)) r ⌝ }
+{
+    let no_registers = [0u32];
+    let a = machine::run(t, inputs, &no_registers, values, bases, ends);
+    put_answer(out, a, values, bases, ends)
+}
+
+// Runs the table from `from` to `count`, with the inputs before it, in the first `memory` words of the lists.
+fn run_request(
     numbers: &[u32],
+    count: usize,
     memory: usize,
     from: usize,
     values: &mut [u32],
     bases: &mut [u32],
     ends: &mut [u32],
     out: &mut [u8],
-    at: usize,
 ) -> usize
-    requires { ⌜ (2 ≤ from) × (from ≤ length (now numbers)) ⌝ }
+    requires { ⌜ (2 ≤ from) × (from ≤ count) × (count ≤ length (now numbers)) × (memory ≤ 4096) × (344064 ≤ length (now out)) ⌝ }
     requires { ⌜ (memory ≤ length (now values)) × (memory ≤ length (now bases)) × (memory ≤ length (now ends)) ⌝ }
+    ensures { λ r. ⌜ Ran (call-in (lists (now (values .entry)) (now (bases .entry)) (now (ends .entry))) memory (take (from - 2) (drop 2 (now (numbers .entry)))) (take (count - from) (drop from (now (numbers .entry))))) (lists (now (values .entry)) (now (bases .entry)) (now (ends .entry))) (now (out .entry)) (lists (now (values .exit)) (now (bases .exit)) (now (ends .exit))) (now (out .exit)) r ⌝ }
 {
-    let no_registers = [0u32];
-    let a = machine::run(
-        &numbers[from..],
+    run_and_print(
+        &numbers[from..count],
         &numbers[2..from],
-        &no_registers,
         &mut values[0..memory],
         &mut bases[0..memory],
         &mut ends[0..memory],
-    );
-    put_answer(out, at, a, memory, values, bases, ends)
+        out,
+    )
 }
 
-// Ends a text, whose numbers a scanner has stored, and prints from `at` on what the bench program prints for it. Answers the next
-// free place: what stands before it is still to be flushed.
+// Whether lists of so many words, and an output of so many bytes, are long enough for every request.
+fn has_room(values: usize, bases: usize, ends: usize, out: usize) -> bool
+    ensures { λ r. ⌜ r ≡ has-room values bases ends out ⌝ }
+{
+    if values < Output::MEMORY {
+        return false;
+    }
+    if bases < Output::MEMORY {
+        return false;
+    }
+    if ends < Output::MEMORY {
+        return false;
+    }
+    Output::ROOM <= out
+}
+
+// Ends a text, whose numbers a scanner has stored, and prints what the bench program prints for it at the front of `out`. A run is in the
+// first words of the three lists.
 pub fn answer(
     numbers: &mut [u32],
     s: Scanner,
@@ -191,26 +125,22 @@ pub fn answer(
     bases: &mut [u32],
     ends: &mut [u32],
     out: &mut [u8],
-    at: usize,
-) -> usize
-    requires { ⌜ (4096 ≤ length (now values)) × (4096 ≤ length (now bases)) × (4096 ≤ length (now ends)) ⌝ }
+) -> Output
+    ensures { λ r. ⌜ Answers s (now (numbers .entry)) (lists (now (values .entry)) (now (bases .entry)) (now (ends .entry))) (now (out .entry)) (now (numbers .exit)) (lists (now (values .exit)) (now (bases .exit)) (now (ends .exit))) (now (out .exit)) r ⌝ }
 {
+    if !has_room(values.len(), bases.len(), ends.len(), out.len()) {
+        return Output::TooShort;
+    }
     let s = text::finish(numbers, s);
     let count = s.count;
     match Request::of(numbers, s) {
-        Request::Run(memory, from) => run_and_print(
-            &numbers[0..count],
-            memory,
-            from,
-            values,
-            bases,
-            ends,
-            out,
-            at,
-        ),
+        Request::Run(memory, from) => {
+            let n = run_request(numbers, count, memory, from, values, bases, ends, out);
+            Output::Printed(n)
+        }
         Request::Malformed => {
-            let at = make_room(out, at);
-            text::put_bytes(out, at, b"input\n")
+            let n = text::put_bytes(out, 0, b"input\n");
+            Output::Printed(n)
         }
     }
 }

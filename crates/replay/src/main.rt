@@ -163,7 +163,7 @@ fn put_run(
     bases: &[u32],
     ends: &[u32],
 ) -> usize {
-    let at = console::put_ending(out, at, a);
+    let at = lines::put_ending(out, at, a);
     if let Answer::Refused(_, _) = a {
         if is_changed(values) || is_changed(bases) || is_changed(ends) {
             return text::put_bytes(out, at, b" changed\n");
@@ -172,7 +172,7 @@ fn put_run(
     }
     // U is never above the lists' length, so nothing is cut off: `least` stands for the proof of that.
     let length = least(values.len(), least(bases.len(), ends.len()));
-    let unused = least(console::unused_after(a), length);
+    let unused = least(lines::unused_after(a), length);
     if unused < 2 {
         return text::put_bytes(out, at, b" ; -\n");
     }
@@ -232,7 +232,7 @@ fn check_case(t: &[u32], out: &mut [u8], at: usize) -> usize {
     match machine::check(t) {
         Verdict::Passes => text::put_bytes(out, at, b"pass\n"),
         Verdict::Refused(number, place) => {
-            let at = console::put_ending(out, at, Answer::Refused(number, place));
+            let at = lines::put_ending(out, at, Answer::Refused(number, place));
             text::put_bytes(out, at, b"\n")
         }
     }

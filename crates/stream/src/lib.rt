@@ -1,11 +1,12 @@
 // Standard input in parts that a byte ends, and standard output in large pieces.
 use libc::STDIN_FILENO;
 use libc::STDOUT_FILENO;
-ghost use Prim.Native.Nat.{_+_, _≤_};
+ghost use Prim.Native.Nat.{_+_, _≤_, min};
 ghost use mathlib.Core.List.{[], _∷_};
 ghost use mathlib.Core.Path.{_≡_};
-ghost use lib.ListN.{length};
+ghost use lib.ListN.{length, drop};
 ghost use Rattle.stream.specs.Items.{word, number, Puts-items};
+ghost use Rattle.stream.specs.Parts.{before, open-part, last-part, part-of, Next-part, free-place};
 
 // Bytes `from` to `to` of a buffer that holds `filled` bytes of the input. The next part starts at `next`.
 pub struct Part {
@@ -28,7 +29,7 @@ impl Part {
 
     // Before the first part.
     pub fn new() -> Part
-        ensures { λ r. ⌜ (r .from ≡ 0) × (r .to ≡ 0) × (r .next ≡ 0) × (r .filled ≡ 0) × (r .state ≡ 0) ⌝ }
+        ensures { λ r. ⌜ r ≡ open-part 0 0 0 ⌝ }
     {
         Part {
             from: 0,
@@ -43,7 +44,7 @@ impl Part {
 // The place of the first byte b from `from` on, or the length.
 fn find(bytes: &[u8], from: usize, b: u8) -> usize
     requires { ⌜ from ≤ length (now bytes) ⌝ }
-    ensures { λ r. ⌜ (from ≤ r) × (r ≤ length (now (bytes .entry))) ⌝ }
+    ensures { λ r. ⌜ (r ≡ from + before b (drop from (now (bytes .entry)))) × (r ≤ length (now (bytes .entry))) ⌝ }
 {
     let mut i = from;
     while i < bytes.len() {
@@ -58,7 +59,7 @@ fn find(bytes: &[u8], from: usize, b: u8) -> usize
 // The part from `from` on, in what is read.
 fn cut(bytes: &[u8], from: usize, b: u8) -> Part
     requires { ⌜ from ≤ length (now bytes) ⌝ }
-    ensures { λ r. ⌜ (r .from ≤ r .to) × (r .to ≤ length (now (bytes .entry))) ⌝ }
+    ensures { λ r. ⌜ (r ≡ part-of (now (bytes .entry)) from b) × (r .from ≤ r .to) × (r .to ≤ length (now (bytes .entry))) ⌝ }
 {
     let to = find(bytes, from, b);
     if to < bytes.len() {
@@ -81,7 +82,7 @@ fn cut(bytes: &[u8], from: usize, b: u8) -> Part
 
 // The part after `last`, up to the byte b or the end of what is read. A read that fails ends the input.
 pub fn next_part(buffer: &mut [u8], last: Part, b: u8) -> Part
-    ensures { λ r. ⌜ (r .from ≤ r .to) × (r .to ≤ length (now (buffer .exit))) ⌝ }
+    ensures { λ r. ⌜ Next-part (now (buffer .entry)) last b (now (buffer .exit)) r ⌝ }
 {
     let from = last.next;
     let filled = last.filled;
@@ -105,7 +106,7 @@ pub fn next_part(buffer: &mut [u8], last: Part, b: u8) -> Part
 }
 
 pub fn least(a: usize, b: usize) -> usize
-    ensures { λ r. ⌜ (r ≤ a) × (r ≤ b) × (a ≤ b → r ≡ a) ⌝ }
+    ensures { λ r. ⌜ (r ≡ min a b) × (r ≤ a) × (r ≤ b) ⌝ }
 {
     if a < b { a } else { b }
 }
@@ -125,7 +126,7 @@ const ROOM: usize = 128;
 
 // The next free place, after a flush if less than `ROOM` is left.
 pub fn make_room(out: &[u8], at: usize) -> usize
-    ensures { λ r. ⌜ (at + 128 ≤ length (now (out .entry)) → r ≡ at) ⌝ }
+    ensures { λ r. ⌜ r ≡ free-place (length (now (out .entry))) at ⌝ }
 {
     if at <= out.len() {
         if ROOM <= out.len() - at {

@@ -7,11 +7,11 @@ use Rattle.bench_cases.proofs.answer_all.Statement.{statement}
 use Rattle.bench_cases.proofs.answer_all.Tie as tie
 
 abbrev Inv-loop : tie.InvT-loop
-Inv-loop buffer₀ numbers₀ values₀ bases₀ ends₀ out₀ p₀ part₀ turns₀ buffer numbers values bases ends out p part turns =
+Inv-loop buffer₀ numbers₀ values₀ bases₀ ends₀ out₀ s₀ part₀ turns₀ buffer numbers values bases ends out s part turns =
     (length buffer ≡ length buffer₀) × (length numbers ≡ length numbers₀) × (length values ≡ length values₀) × (length bases ≡ length bases₀) × (length ends ≡ length ends₀) × (length out ≡ length out₀)
 
 abbrev μ-loop : tie.MeasureT-loop
-μ-loop buffer₀ numbers₀ values₀ bases₀ ends₀ out₀ p₀ part₀ turns₀ buffer numbers values bases ends out p part turns = turns
+μ-loop buffer₀ numbers₀ values₀ bases₀ ends₀ out₀ s₀ part₀ turns₀ buffer numbers values bases ends out s part turns = turns
 
 pub answer-all-spec : {M : Type 1} → statement M
 answer-all-spec =
@@ -26,7 +26,7 @@ answer-all-spec =
     (λ c. search needs)  -- sub-take-part
     (λ c. search needs)  -- part-take-part-start
     (λ c. search needs)  -- part-take-part-end
-    (λ c κs. omega (arith, c .before .before .before .before .before .before .before .before .before .before .before .before .before .before .loop .inv, c .before .before .before .before .before .before .before .before .before .before .before .before .before .before .before .before .before .before .before .before .before .before .before .pre))  -- take-part-requires
+    (λ c κs. search needs)  -- take-part-requires
     (λ c. search needs)  -- sub-turns
     (λ c. search needs)  -- loop-less
     (λ c. search needs)  -- loop-again

@@ -1,32 +1,41 @@
--- `console::answer` is safe: the parts that `Request::of` tells lie in their lists. Assumes nothing.
-use Prim.Native.Nat.{_≤_}
+-- `console::answer` meets its contract. Assumes nothing.
+use mathlib.Core.Path.{sym, _∙_}
 use native.Mathlib.Omega.{arith}
 use borrow.Author.Needs.{needs}
-use lib.ListN.{length, length-take}
+use borrow.Author.Tests.{not-true, not-false}
+use Rattle.console.proofs.Calls.{room, too-short, answers-run, answers-input}
 use Rattle.console.proofs.answer.Statement.{statement}
 use Rattle.console.proofs.answer.Tie as tie
 
-bounds :
-    (c : tie.After-memory)
-    → (c .memory .given .0 .0 ≤ 4096)
-    × (2 ≤ c .memory .given .0 .1 .0)
-    × (c .memory .given .0 .1 .0 ≤ c .before .before .before .before .before .before .finish .result .count)
-    × (c .before .before .before .before .before .before .finish .result .count ≤ length (c .before .before .before .before .before .before .finish .last .0))
-bounds c = c .before .before .of .ensures .bounds _ _ (c .memory .given .1)
+run-request-requires : tie.Need-run-request-requires
+run-request-requires c κs =
+    let has = room _ _ _ _ (sym (c .before .before .before .before .before .before .before .before .before .before .before .before .before .before .before .has-room .ensures) ∙ not-false _ (c .before .before .before .before .before .before .before .before .before .before .before .before .before .before .if1 .left)) in
+    let parts = c .before .before .before .before .before .before .before .before .of .ensures .parts _ _ (c .before .before .before .before .before .before .memory .given .1) in
+    let most = parts .most in
+    ((parts .two, parts .upto, parts .count, most, search needs), (omega arith, omega arith, omega arith))
+
+returns : tie.Need-returns
+returns c = too-short _ _ _ _ (sym (c .before .has-room .ensures) ∙ not-true _ (c .if1 .taken))
+
+returns-2 : tie.Need-returns-2
+returns-2 c =
+    answers-run _ _ _ _ (sym (c .before .before .before .before .before .before .before .before .before .before .before .before .before .before .before .before .before .before .before .before .before .before .before .before .has-room .ensures) ∙ not-false _ (c .before .before .before .before .before .before .before .before .before .before .before .before .before .before .before .before .before .before .before .before .before .before .before .if1 .left)) (c .before .before .before .before .before .before .before .before .before .before .before .before .before .before .before .before .before .before .before .before .before .finish .ensures) _ (c .before .before .before .before .before .before .before .before .before .before .before .before .before .before .before .before .before .of .ensures) (c .before .before .before .before .before .before .before .before .before .before .before .before .before .before .before .memory .given .1) (c .before .before .before .before .before .before .before .before .before .before .before .before .before .before .before .before .before .before .before .before .before .finish .kept .0) (c .before .before .before .before .before .before .before .before .run-request .ensures)
+
+returns-3 : tie.Need-returns-3
+returns-3 c =
+    answers-input _ _ _ _ (sym (c .before .before .before .before .before .before .before .before .before .before .before .before .before .before .has-room .ensures) ∙ not-false _ (c .before .before .before .before .before .before .before .before .before .before .before .before .before .if1 .left)) (c .before .before .before .before .before .before .before .before .before .before .before .finish .ensures) _ (c .before .before .before .before .before .before .before .of .ensures) (c .before .before .before .before .before .enum-told .given .1) (c .before .before .before .before .before .before .before .before .before .before .before .finish .kept .0) (c .before .before .put-bytes .ensures)
 
 pub answer-spec : {M : Type 1} → statement M
 answer-spec =
     tie.close
     (tie.spec
+    (λ c κs. search needs)  -- has-room-requires
+    returns
     (λ c κs. search needs)  -- finish-requires
     (λ c κs. search needs)  -- of-requires
     (λ c. search needs)  -- enum-known-memory
-    (λ c. search needs)  -- sub-run-and-print
-    (λ c. search needs)  -- part-run-and-print-start
-    (λ c. omega (arith, bounds (c .before .before)))  -- part-run-and-print-end
-    (λ c κs. simp length-take (omega (arith, bounds (c .before .before .before .before .before .before .before))))
+    run-request-requires
     (λ c. search needs)  -- enum-told
-    (λ c κs. search needs)  -- make-room-requires
     (λ c. search needs)  -- slice-aggregate-put-bytes
     (λ c κs. search needs)  -- put-bytes-requires
     (λ c. search needs)  -- same-length
@@ -34,7 +43,7 @@ answer-spec =
     (λ c. search needs)  -- same-length-3
     (λ c. search needs)  -- same-length-4
     (λ c. search needs)  -- same-length-5
-    (λ c. search needs)  -- returns
+    returns-2
     (λ c. search needs)  -- same-length-6
     (λ c. search needs)  -- same-length-7
-    (λ c. search needs))  -- returns-2
+    returns-3)

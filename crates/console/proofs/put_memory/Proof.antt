@@ -1,8 +1,8 @@
--- `console::put_memory` meets its contract. The loop's invariant: the lines of the words before i are put, if there is room for all. Assumes nothing.
+-- `console::put_memory` meets its contract. The loop's invariant: the lines of the words before i are put. Assumes nothing.
 use Prim.Native.Nat.{_-_}
 use native.Mathlib.Omega.{arith}
 use borrow.Author.Needs.{needs}
-use Rattle.console.proofs.Lines.{Printing, printing-none, printing-more, printing-all}
+use Rattle.console.proofs.Calls.{Printing, printing-none, printing-more, printing-all}
 use Rattle.console.proofs.put_memory.Statement.{statement}
 use Rattle.console.proofs.put_memory.Tie as tie
 
@@ -15,7 +15,7 @@ abbrev μ-loop : tie.MeasureT-loop
 loop-again : tie.Need-loop-again Inv-loop μ-loop
 loop-again c =
     let w = c .before .before .put-word in
-    printing-more _ _ _ _ _ _ _ (c .before .before .before .before .before .before .before .before .before .before .loop .inv) (omega arith) (c .before .before .before .before .before .before .before .make-room .ensures) (w .ensures) (w .kept .0)
+    printing-more _ _ _ _ _ _ _ (c .before .before .before .before .before .before .before .before .loop .inv) (omega arith) (w .ensures) (w .kept .0)
 
 returns : tie.Need-returns Inv-loop μ-loop
 returns c = printing-all _ _ _ _ _ _ (c .before .loop .inv) (omega arith)
@@ -27,7 +27,6 @@ put-memory-spec =
     Inv-loop
     μ-loop
     (λ c. printing-none _ _ _ _ _ _)
-    (λ c κs. search needs)  -- make-room-requires
     (λ c. search needs)  -- mul-put-word
     (λ c. search needs)  -- shared-slice-read-put-word
     (λ c. search needs)  -- mul-put-word-2

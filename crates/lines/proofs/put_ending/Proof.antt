@@ -1,8 +1,8 @@
--- `console::put_ending` meets its contract: each arm puts the line of its ending. Assumes nothing.
+-- `lines::put_ending` meets its contract: each arm puts the line of its ending. Assumes nothing.
 use borrow.Author.Needs.{needs}
-use Rattle.console.proofs.Lines.{same-items, refused-items, done-items, abort-items, noroom-items}
-use Rattle.console.proofs.put_ending.Statement.{statement}
-use Rattle.console.proofs.put_ending.Tie as tie
+use Rattle.lines.proofs.Lines.{same-items, refused-items, done-items, abort-items, noroom-items}
+use Rattle.lines.proofs.put_ending.Statement.{statement}
+use Rattle.lines.proofs.put_ending.Tie as tie
 
 returns : tie.Need-returns
 returns c =

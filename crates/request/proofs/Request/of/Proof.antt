@@ -1,9 +1,9 @@
--- `console::Request::of` meets its contract: each test that turns the numbers away is of a limit that they break. Assumes nothing.
+-- `request::Request::of` meets its contract: each test that turns the numbers away is of a limit that they break. Assumes nothing.
 use borrow.Author.Needs.{needs}
 use native.Mathlib.Omega.{arith}
-use Rattle.console.proofs.Demands.{of-bad, of-refused, of-run}
-use Rattle.console.proofs.Request.of.Statement.{statement}
-use Rattle.console.proofs.Request.of.Tie as tie
+use Rattle.request.proofs.Demands.{of-bad, of-refused, of-run}
+use Rattle.request.proofs.Request.of.Statement.{statement}
+use Rattle.request.proofs.Request.of.Tie as tie
 
 pub of-spec : {M : Type 1} → statement M
 of-spec =

@@ -1,9 +1,9 @@
--- `console::put_word` meets its contract. Assumes nothing.
+-- `lines::put_word` meets its contract. Assumes nothing.
 use borrow.Author.Needs.{needs}
 use Rattle.stream.proofs.Items.{puts-word, puts-number, puts-then}
-use Rattle.console.proofs.Lines.{same-items, word-items}
-use Rattle.console.proofs.put_word.Statement.{statement}
-use Rattle.console.proofs.put_word.Tie as tie
+use Rattle.lines.proofs.Lines.{same-items, word-items}
+use Rattle.lines.proofs.put_word.Statement.{statement}
+use Rattle.lines.proofs.put_word.Tie as tie
 
 -- From the last call to the first: the line's end, end, base, value, address.
 returns : tie.Need-returns

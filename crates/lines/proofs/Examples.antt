@@ -4,7 +4,7 @@ use mathlib.Core.Path.{_≡_, refl}
 use Rattle.semantics.specs.Run.{ending, abort}
 use Rattle.text.specs.Decimal.{last-digits}
 use Rattle.stream.specs.Items.{item-bytes, bytes-of}
-use Rattle.console.specs.Lines.{ending-line, word-line}
+use Rattle.lines.specs.Lines.{ending-line, word-line}
 
 -- "abort 4 7"
 first-line : bytes-of (ending-line (ending (abort 4) 7)) ≡ 97 ∷ 98 ∷ 111 ∷ 114 ∷ 116 ∷ 32 ∷ 52 ∷ 32 ∷ 55 ∷ []

@@ -1,10 +1,10 @@
--- `console::unused_after` meets its contract. Assumes nothing.
+-- `lines::unused_after` meets its contract. Assumes nothing.
 use mathlib.Core.Path.{_∙_}
 use borrow.Author.Needs.{needs}
-use Rattle.console.specs.Lines.{unused}
-use Rattle.console.proofs.Lines.{unused-of}
-use Rattle.console.proofs.unused_after.Statement.{statement}
-use Rattle.console.proofs.unused_after.Tie as tie
+use Rattle.lines.specs.Lines.{unused}
+use Rattle.lines.proofs.Lines.{unused-of}
+use Rattle.lines.proofs.unused_after.Statement.{statement}
+use Rattle.lines.proofs.unused_after.Tie as tie
 
 returns : tie.Need-returns
 unfolding unused

@@ -1,8 +1,8 @@
--- `console::put_pair` meets its contract: it puts its bytes and a number, then a space and the other number. Assumes nothing.
+-- `lines::put_pair` meets its contract: it puts its bytes and a number, then a space and the other number. Assumes nothing.
 use borrow.Author.Needs.{needs}
 use Rattle.stream.proofs.Items.{puts-then}
-use Rattle.console.proofs.put_pair.Statement.{statement}
-use Rattle.console.proofs.put_pair.Tie as tie
+use Rattle.lines.proofs.put_pair.Statement.{statement}
+use Rattle.lines.proofs.put_pair.Tie as tie
 
 returns : tie.Need-returns
 returns c = puts-then (c .before .before .before .before .before .before .before .put-after .ensures) (c .before .before .put-after2 .ensures)

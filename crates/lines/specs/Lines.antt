@@ -1,9 +1,9 @@
 -- The lines that the bench program prints for a call.
-use Prim.Native.Nat.{ℕ, zero, suc, _+_, _*_, _-_, _≤_}
+use Prim.Native.Nat.{ℕ, zero, suc, _-_}
 use mathlib.Core.List.{List, [], _∷_, _++_}
-use lib.ListN.{length, getD}
+use lib.ListN.{getD}
 use Rattle.semantics.specs.Run.{Answer, refusal, ending, done, abort, out-of-memory, stuck}
-use Rattle.stream.specs.Items.{Item, word, number, Puts-items}
+use Rattle.stream.specs.Items.{Item, word, number}
 
 -- Byte 32 is a space, byte 10 a line end.
 abbrev pub space : Item
@@ -56,7 +56,3 @@ memory-lines u values bases ends = lines-to (u - 1) values bases ends
 -- All that is printed for a call, whose memory is the three lists.
 abbrev pub answer-lines : Answer → (values bases ends : List ℕ) → List Item
 answer-lines a values bases ends = ending-line a ++ (line-end ∷ memory-lines (unused a) values bases ends)
-
--- It stands in `out` from `at` on, if there is room for it and U is in the memory that was lent.
-pub record Prints (a : Answer) (memory : ℕ) (values bases ends out : List ℕ) (at : ℕ) (out′ : List ℕ) (r : ℕ) : Type 0 where
-  pub fits : at + 128 * (1 + unused a) ≤ length out → unused a ≤ memory → Puts-items (answer-lines a values bases ends) out at out′ r

@@ -1,0 +1,3 @@
+-- Laws that the functions' proofs cite.
+pub mod Lines
+pub mod Examples

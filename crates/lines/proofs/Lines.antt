@@ -1,0 +1,76 @@
+-- The items that the functions put, as the lines of specs/.
+use Prim.Native.Nat.{ℕ, zero, suc, _+_, _*_, _-_, _≤_}
+use mathlib.Core.List.{List, [], _∷_, _++_}
+use mathlib.Core.Path.{_≡_, refl}
+use native.Mathlib.Omega.{arith}
+use lib.ListN.{getD}
+use Rattle.machine.specs.declared.Answer.{Answer}
+use Rattle.machine.specs.declared.Answer.the-variants.{Refused, Done, Abort, NoRoom}
+use Rattle.machine.specs.Run.{answer-of}
+use Rattle.semantics.specs.Run as semantics
+use Rattle.semantics.specs.Run.{refusal, ending, done, abort, out-of-memory, stuck}
+use Rattle.stream.specs.Items.{Item, number, item-room, room-of, Puts-items}
+use Rattle.lines.specs.Lines.{space, done-word, abort-word, noroom-word, refused-word, line-end, ending-line, unused, word-line, lines-to, memory-lines, answer-lines}
+
+pub same-items : {ps qs : List Item} {out : List ℕ} {at : ℕ} {out′ : List ℕ} {r : ℕ} → ps ≡ qs → Puts-items ps out at out′ r → Puts-items qs out at out′ r
+same-items e h = rw e at h
+
+module _ {a : Answer} {x : ℕ} where
+  pub done-items : {u : ℕ} → a ≡ Done u → x ≡ u → done-word ∷ number x ∷ [] ≡ ending-line (answer-of a)
+  unfolding ending-line
+  done-items e p = rw (e, p)
+
+  pub refused-items : {n y : ℕ} → a ≡ Refused n y → x ≡ n → refused-word ∷ number x ∷ space ∷ number y ∷ [] ≡ ending-line (answer-of a)
+  unfolding ending-line
+  refused-items e p = rw (e, p)
+
+  pub abort-items : {c u y : ℕ} → a ≡ Abort c u → x ≡ c → y ≡ u → abort-word ∷ number x ∷ space ∷ number y ∷ [] ≡ ending-line (answer-of a)
+  unfolding ending-line
+  abort-items e p q = rw (e, p, q)
+
+  pub noroom-items : {c u y : ℕ} → a ≡ NoRoom c u → x ≡ c → y ≡ u → noroom-word ∷ number x ∷ space ∷ number y ∷ [] ≡ ending-line (answer-of a)
+  unfolding ending-line
+  noroom-items e p q = rw (e, p, q)
+
+pub word-items : {value base end v b e : ℕ} (address : ℕ) → v ≡ value → b ≡ base → e ≡ end
+    → number address ∷ space ∷ number v ∷ space ∷ number b ∷ space ∷ number e ∷ line-end ∷ [] ≡ word-line address value base end
+unfolding word-line
+word-items address p q s = rw (p, q, s)
+
+pub unused-of : {a b : Answer} → a ≡ b → unused (answer-of b) ≡ unused (answer-of a)
+unused-of e = rw e
+
+-- ---- the room that the lines take
+
+pub word-room : (address value base end : ℕ) → room-of (word-line address value base end) ≡ 84
+unfolding room-of item-room word-line
+word-room address value base end = refl
+
+pub ending-room : (a : semantics.Answer) → room-of (ending-line a) ≤ 49
+unfolding room-of item-room ending-line
+ending-room (refusal n p) = omega arith
+ending-room (ending done u) = omega arith
+ending-room (ending (abort c) u) = omega arith
+ending-room (ending (out-of-memory c) u) = omega arith
+ending-room (ending (stuck c) u) = omega arith
+
+room-both : (ps qs : List Item) → room-of (ps ++ qs) ≡ room-of ps + room-of qs
+unfolding room-of
+room-both [] qs = omega arith
+room-both (p ∷ ps) qs = let rest = room-both ps qs in omega arith
+
+lines-room : (n : ℕ) (vs bs es : List ℕ) → room-of (lines-to n vs bs es) ≡ 84 * n
+unfolding room-of lines-to
+lines-room zero vs bs es = refl
+lines-room (suc n) vs bs es =
+    let here = word-room (suc n) (getD vs (suc n) 0) (getD bs (suc n) 0) (getD es (suc n) 0) in
+    let before = lines-room n vs bs es in
+    rw room-both (omega arith)
+
+-- An answer whose U is at most 4,096 fits in 84 bytes for each of 4,096 lines.
+pub answer-room : (a : semantics.Answer) (vs bs es : List ℕ) → unused a ≤ 4096 → room-of (answer-lines a vs bs es) ≤ 344064
+unfolding room-of item-room
+answer-room a vs bs es h =
+    let first = ending-room a in
+    let words = lines-room (unused a - 1) vs bs es in
+    rw room-both (omega arith)
