@@ -1,5 +1,5 @@
 -- Laws of what is printed: the loop over the memory, the bytes of a call, and what the lists of a call matter to them.
-use Prim.Native.Nat.{ℕ, zero, suc, _+_, _-_, _≤_, _<_}
+use Prim.Native.Nat.{ℕ, zero, suc, _+_, _*_, _-_, _≤_, _<_}
 use mathlib.Core.Bool.{true, false, false≢true}
 use mathlib.Core.List.{List, [], _∷_, _++_}
 use mathlib.Core.Path.{_≡_, refl, sym, ap, _∙_}
@@ -12,7 +12,7 @@ use Rattle.semantics.specs.Words.{Words}
 use Rattle.semantics.specs.Check.{Verdict, passes, refused, call-fault}
 use Rattle.semantics.specs.Run.{Answer, refusal, ending, Result, result-of, call-by, call}
 use Rattle.semantics.proofs.Safety.{spatial-safety, unused-fits}
-use Rattle.stream.specs.Items.{Puts-items}
+use Rattle.stream.specs.Items.{Item, item-room, room-of, Puts-items}
 use Rattle.stream.proofs.Items.{puts-none, puts-word, puts-then}
 use Rattle.text.specs.Decimal.{Puts}
 use Rattle.text.specs.Scan.{Finishes}
@@ -21,11 +21,11 @@ use Rattle.request.specs.Request.{Demand, run, input, demand, stored, request-o
 use Rattle.request.proofs.Demands.{all-true}
 use Rattle.request.specs.declared.Request.{Request}
 use Rattle.request.specs.declared.Request.the-variants.{Run, Malformed}
-use Rattle.lines.proofs.Lines.{answer-room}
+use Rattle.lines.proofs.Lines.{word-room, ending-room}
 use Rattle.machine.specs.Run.{answer-of, Is}
 use Rattle.machine.specs.declared.Answer as machine-answer
-use Rattle.lines.specs.Lines.{ending-line, unused, word-line, lines-to, memory-lines, answer-lines}
-use Rattle.console.specs.Output.{input-line, result-bytes, Lists, lists, call-in, output, over, lists-over, lists-after, has-room, outcome-of, finished, answered, Answers, Called, Ran}
+use Rattle.lines.specs.Lines.{ending-line, unused, word-line}
+use Rattle.console.specs.Output.{lines-to, memory-lines, answer-lines, input-line, result-bytes, Lists, lists, call-in, output, over, lists-over, lists-after, has-room, outcome-of, finished, answered, Answers, Called, Ran}
 use Rattle.console.specs.declared.Output.the-variants.{Printed, TooShort}
 
 -- ---- the loop over the memory
@@ -67,6 +67,29 @@ pub puts-answer : (a : Answer) (vs bs es : Words) {out : List ℕ} {at : ℕ}
     → {out₃ : List ℕ} {r₃ : ℕ} → Puts-items (memory-lines u vs bs es) out₂ r₂ out₃ r₃
     → Puts-items (answer-lines a vs bs es) out at out₃ r₃
 puts-answer a vs bs es first second e third = puts-then first (puts-then (puts-word second) (rw e at third))
+
+-- ---- the room that the lines take
+
+room-both : (ps qs : List Item) → room-of (ps ++ qs) ≡ room-of ps + room-of qs
+unfolding room-of
+room-both [] qs = omega arith
+room-both (p ∷ ps) qs = let rest = room-both ps qs in omega arith
+
+lines-room : (n : ℕ) (vs bs es : List ℕ) → room-of (lines-to n vs bs es) ≡ 84 * n
+unfolding room-of lines-to
+lines-room zero vs bs es = refl
+lines-room (suc n) vs bs es =
+    let here = word-room (suc n) (getD vs (suc n) 0) (getD bs (suc n) 0) (getD es (suc n) 0) in
+    let before = lines-room n vs bs es in
+    rw room-both (omega arith)
+
+-- An answer whose U is at most 4,096 fits in 84 bytes for each of 4,096 lines.
+pub answer-room : (a : Answer) (vs bs es : List ℕ) → unused a ≤ 4096 → room-of (answer-lines a vs bs es) ≤ 344064
+unfolding room-of item-room
+answer-room a vs bs es h =
+    let first = ending-room a in
+    let words = lines-room (unused a - 1) vs bs es in
+    rw room-both (omega arith)
 
 -- ---- calls
 

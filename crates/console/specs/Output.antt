@@ -1,23 +1,37 @@
 -- Document 01, "The bench program": what is printed for a text, and what is left in the lists that the program lends.
-use Prim.Native.Nat.{ℕ, _≤_}
+use Prim.Native.Nat.{ℕ, zero, suc, _-_, _≤_}
 use mathlib.Core.Bool.{Bool, true, _&&_}
 use mathlib.Core.List.{List, [], _∷_, _++_}
 use mathlib.Core.Path.{_≡_}
 use lib.Dec.{leb}
-use lib.ListN.{length, take, drop, replicate}
+use lib.ListN.{length, take, drop, getD, replicate}
 use Rattle.text.specs.Numbers as contents
 use Rattle.text.specs.Numbers.{if_then_else_}
 use Rattle.text.specs.Scan.{Held, held, end-number, Scanned}
 use Rattle.text.specs.declared.Scanner.{Scanner}
 use Rattle.semantics.specs.Words.{Words}
-use Rattle.semantics.specs.Run.{Result, call}
-use Rattle.stream.specs.Items.{bytes-of}
+use Rattle.semantics.specs.Run.{Answer, Result, call}
+use Rattle.stream.specs.Items.{Item, bytes-of}
 use Rattle.request.specs.Request.{Demand, run, input, demand, stored}
-use Rattle.lines.specs.Lines.{answer-lines}
+use Rattle.lines.specs.Lines.{line-end, ending-line, unused, word-line}
 use Rattle.console.specs.declared.Output.{Output}
 use Rattle.console.specs.declared.Output.the-variants.{Printed, TooShort}
 
 -- ---- what is printed
+
+-- The lines of the words 1 to n, of a memory of three lists.
+unfoldable pub lines-to : ℕ → (values bases ends : List ℕ) → List Item
+lines-to zero values bases ends = []
+lines-to (suc n) values bases ends =
+    lines-to n values bases ends ++ word-line (suc n) (getD values (suc n) 0) (getD bases (suc n) 0) (getD ends (suc n) 0)
+
+-- "one line follows for each word from 1 to U − 1"
+abbrev pub memory-lines : ℕ → (values bases ends : List ℕ) → List Item
+memory-lines u values bases ends = lines-to (u - 1) values bases ends
+
+-- All that is printed for a call, whose memory is the three lists.
+abbrev pub answer-lines : Answer → (values bases ends : List ℕ) → List Item
+answer-lines a values bases ends = ending-line a ++ (line-end ∷ memory-lines (unused a) values bases ends)
 
 -- "the line `input`"
 abbrev pub input-line : List ℕ

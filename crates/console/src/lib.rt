@@ -12,8 +12,8 @@ ghost use lib.ListN.{length, take, drop};
 ghost use Rattle.machine.specs.Run.{answer-of};
 ghost use Rattle.semantics.specs.Run.{call};
 ghost use Rattle.stream.specs.Items.{Puts-items};
-ghost use Rattle.lines.specs.Lines.{unused, memory-lines, answer-lines};
-ghost use Rattle.console.specs.Output.{lists, call-in, has-room, Answers, Called, Ran};
+ghost use Rattle.lines.specs.Lines.{unused};
+ghost use Rattle.console.specs.Output.{memory-lines, answer-lines, lists, call-in, has-room, Answers, Called, Ran};
 
 // So many bytes are printed at the front of the output; or a list is too short, and nothing is done.
 pub enum Output {

@@ -1,16 +1,15 @@
 -- The items that the functions put, as the lines of specs/.
-use Prim.Native.Nat.{ℕ, zero, suc, _+_, _*_, _-_, _≤_}
-use mathlib.Core.List.{List, [], _∷_, _++_}
+use Prim.Native.Nat.{ℕ, _≤_}
+use mathlib.Core.List.{List, [], _∷_}
 use mathlib.Core.Path.{_≡_, refl}
 use native.Mathlib.Omega.{arith}
-use lib.ListN.{getD}
 use Rattle.machine.specs.declared.Answer.{Answer}
 use Rattle.machine.specs.declared.Answer.the-variants.{Refused, Done, Abort, NoRoom}
 use Rattle.machine.specs.Run.{answer-of}
 use Rattle.semantics.specs.Run as semantics
 use Rattle.semantics.specs.Run.{refusal, ending, done, abort, out-of-memory, stuck}
 use Rattle.stream.specs.Items.{Item, number, item-room, room-of, Puts-items}
-use Rattle.lines.specs.Lines.{space, done-word, abort-word, noroom-word, refused-word, line-end, ending-line, unused, word-line, lines-to, memory-lines, answer-lines}
+use Rattle.lines.specs.Lines.{space, done-word, abort-word, noroom-word, refused-word, line-end, ending-line, unused, word-line}
 
 pub same-items : {ps qs : List Item} {out : List ℕ} {at : ℕ} {out′ : List ℕ} {r : ℕ} → ps ≡ qs → Puts-items ps out at out′ r → Puts-items qs out at out′ r
 same-items e h = rw e at h
@@ -53,24 +52,3 @@ ending-room (ending done u) = omega arith
 ending-room (ending (abort c) u) = omega arith
 ending-room (ending (out-of-memory c) u) = omega arith
 ending-room (ending (stuck c) u) = omega arith
-
-room-both : (ps qs : List Item) → room-of (ps ++ qs) ≡ room-of ps + room-of qs
-unfolding room-of
-room-both [] qs = omega arith
-room-both (p ∷ ps) qs = let rest = room-both ps qs in omega arith
-
-lines-room : (n : ℕ) (vs bs es : List ℕ) → room-of (lines-to n vs bs es) ≡ 84 * n
-unfolding room-of lines-to
-lines-room zero vs bs es = refl
-lines-room (suc n) vs bs es =
-    let here = word-room (suc n) (getD vs (suc n) 0) (getD bs (suc n) 0) (getD es (suc n) 0) in
-    let before = lines-room n vs bs es in
-    rw room-both (omega arith)
-
--- An answer whose U is at most 4,096 fits in 84 bytes for each of 4,096 lines.
-pub answer-room : (a : semantics.Answer) (vs bs es : List ℕ) → unused a ≤ 4096 → room-of (answer-lines a vs bs es) ≤ 344064
-unfolding room-of item-room
-answer-room a vs bs es h =
-    let first = ending-room a in
-    let words = lines-room (unused a - 1) vs bs es in
-    rw room-both (omega arith)

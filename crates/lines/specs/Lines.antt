@@ -1,7 +1,6 @@
--- The lines that the bench program prints for a call.
-use Prim.Native.Nat.{ℕ, zero, suc, _-_}
-use mathlib.Core.List.{List, [], _∷_, _++_}
-use lib.ListN.{getD}
+-- The lines that the bench program prints: how a call ended, and a word of the memory.
+use Prim.Native.Nat.{ℕ}
+use mathlib.Core.List.{List, [], _∷_}
 use Rattle.semantics.specs.Run.{Answer, refusal, ending, done, abort, out-of-memory, stuck}
 use Rattle.stream.specs.Items.{Item, word, number}
 
@@ -42,17 +41,3 @@ unused (ending e u) = u
 -- "address, value, base, end", with the line's end.
 unfoldable pub word-line : (address value base end : ℕ) → List Item
 word-line address value base end = number address ∷ space ∷ number value ∷ space ∷ number base ∷ space ∷ number end ∷ line-end ∷ []
-
--- The lines of the words 1 to n, of a memory of three lists.
-unfoldable pub lines-to : ℕ → (values bases ends : List ℕ) → List Item
-lines-to zero values bases ends = []
-lines-to (suc n) values bases ends =
-    lines-to n values bases ends ++ word-line (suc n) (getD values (suc n) 0) (getD bases (suc n) 0) (getD ends (suc n) 0)
-
--- "one line follows for each word from 1 to U − 1"
-abbrev pub memory-lines : ℕ → (values bases ends : List ℕ) → List Item
-memory-lines u values bases ends = lines-to (u - 1) values bases ends
-
--- All that is printed for a call, whose memory is the three lists.
-abbrev pub answer-lines : Answer → (values bases ends : List ℕ) → List Item
-answer-lines a values bases ends = ending-line a ++ (line-end ∷ memory-lines (unused a) values bases ends)
