@@ -8,7 +8,8 @@ use Rattle.semantics.specs.Check.{_or-else_, require, each, section-faul
 use Rattle.semantics.specs.Syntax.{step-of, tree-rule, trees-below, tree-of, place-of, value-of}
 use Rattle.semantics.specs.Rules.{in-bounds, checked, deref-step, field-step, touchable, read-step, malloc-step, place-at, assign-step, assign}
 use Rattle.semantics.specs.Run.{cleared, registers-below, begin, command, commands-below, run, call}
-use Rattle.semantics.specs.Examples.{Example, observed, refusals, runs, refused-lists, register-runs, record-runs}
+use Rattle.semantics.specs.ExampleTables.{Example, observed}
+use Rattle.semantics.specs.Examples.{refusals, runs, refused-lists, register-runs, record-runs}
 
 -- To unfold this is to unfold every definition that a call comes down to.
 computed : Example → Example

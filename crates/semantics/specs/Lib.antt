@@ -9,4 +9,8 @@ pub mod Rules
 pub mod Run
 pub mod Safety
 pub mod Log
+pub mod ExampleTables
 pub mod Examples
+pub mod RefusalExamples
+pub mod CallExamples
+pub mod RunExamples

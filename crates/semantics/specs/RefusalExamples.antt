@@ -1,0 +1,2 @@
+-- empty
+use Prim.Native.Nat.{ℕ}
