@@ -8,7 +8,9 @@ use Rattle.semantics.specs.Check.{_or-else_, require, each, section-faul
 use Rattle.semantics.specs.Syntax.{step-of, tree-rule, trees-below, tree-of, place-of, value-of}
 use Rattle.semantics.specs.Rules.{in-bounds, checked, deref-step, field-step, touchable, read-step, malloc-step, place-at, assign-step, assign}
 use Rattle.semantics.specs.Run.{cleared, registers-below, begin, command, commands-below, run, call}
-use Rattle.semantics.specs.ExampleTables.{Example, observed}
+use Rattle.semantics.specs.ExampleTables.{Judgement, judged, Request, answered, Example, observed}
+use Rattle.semantics.specs.RefusalExamples.{sections, declarations, operands, node-types, commands-and-uses}
+use Rattle.semantics.specs.CallExamples.{arguments, register-lists, unequal-lists}
 use Rattle.semantics.specs.Examples.{refusals, runs, refused-lists, register-runs, record-runs}
 
 -- To unfold this is to unfold every definition that a call comes down to.
@@ -35,3 +37,45 @@ register-runs-end-so = refl
 pub record-runs-end-so : map observed record-runs ≡ record-runs
 unfolding computed record-runs
 record-runs-end-so = refl
+
+-- The same for the check alone.
+checked-table : Judgement → Judgement
+unfolding computed judged
+checked-table x = judged x
+
+pub sections-are-judged-so : map judged sections ≡ sections
+unfolding checked-table sections
+sections-are-judged-so = refl
+
+pub declarations-are-judged-so : map judged declarations ≡ declarations
+unfolding checked-table declarations
+declarations-are-judged-so = refl
+
+pub operands-are-judged-so : map judged operands ≡ operands
+unfolding checked-table operands
+operands-are-judged-so = refl
+
+pub node-types-are-judged-so : map judged node-types ≡ node-types
+unfolding checked-table node-types
+node-types-are-judged-so = refl
+
+pub commands-and-uses-are-judged-so : map judged commands-and-uses ≡ commands-and-uses
+unfolding checked-table commands-and-uses
+commands-and-uses-are-judged-so = refl
+
+-- The same for what a call is refused for.
+checked-call : Request → Request
+unfolding computed answered
+checked-call x = answered x
+
+pub arguments-are-judged-so : map answered arguments ≡ arguments
+unfolding checked-call arguments
+arguments-are-judged-so = refl
+
+pub register-lists-are-judged-so : map answered register-lists ≡ register-lists
+unfolding checked-call register-lists
+register-lists-are-judged-so = refl
+
+pub unequal-lists-are-refused : map observed unequal-lists ≡ unequal-lists
+unfolding computed unequal-lists
+unequal-lists-are-refused = refl
