@@ -11,6 +11,7 @@ use Rattle.semantics.specs.Run.{cleared, registers-below, begin, command
 use Rattle.semantics.specs.ExampleTables.{Judgement, judged, Request, answered, Example, observed}
 use Rattle.semantics.specs.RefusalExamples.{sections, declarations, operands, node-types, commands-and-uses}
 use Rattle.semantics.specs.CallExamples.{arguments, register-lists, unequal-lists}
+use Rattle.semantics.specs.RunExamples.{memory-runs, order-runs, place-runs, value-runs, malloc-runs}
 use Rattle.semantics.specs.Examples.{refusals, runs, refused-lists, register-runs, record-runs}
 
 -- To unfold this is to unfold every definition that a call comes down to.
@@ -79,3 +80,23 @@ register-lists-are-judged-so = refl
 pub unequal-lists-are-refused : map observed unequal-lists ≡ unequal-lists
 unfolding computed unequal-lists
 unequal-lists-are-refused = refl
+
+pub memory-runs-end-so : map observed memory-runs ≡ memory-runs
+unfolding computed memory-runs
+memory-runs-end-so = refl
+
+pub order-runs-end-so : map observed order-runs ≡ order-runs
+unfolding computed order-runs
+order-runs-end-so = refl
+
+pub place-runs-end-so : map observed place-runs ≡ place-runs
+unfolding computed place-runs
+place-runs-end-so = refl
+
+pub value-runs-end-so : map observed value-runs ≡ value-runs
+unfolding computed value-runs
+value-runs-end-so = refl
+
+pub malloc-runs-end-so : map observed malloc-runs ≡ malloc-runs
+unfolding computed malloc-runs
+malloc-runs-end-so = refl
