@@ -12,7 +12,7 @@ use Rattle.semantics.specs.ExampleTables.{Judgement, judged, Request, an
 use Rattle.semantics.specs.RefusalExamples.{sections, declarations, operands, node-types, commands-and-uses}
 use Rattle.semantics.specs.CallExamples.{arguments, register-lists, unequal-lists}
 use Rattle.semantics.specs.RunExamples.{memory-runs, order-runs, place-runs, value-runs, malloc-runs}
-use Rattle.semantics.specs.Examples.{refusals, runs, refused-lists, register-runs, record-runs}
+use Rattle.semantics.specs.Examples.{verdicts, refusals, runs, refused-lists, register-runs, record-runs}
 
 -- To unfold this is to unfold every definition that a call comes down to.
 computed : Example → Example
@@ -43,6 +43,10 @@ record-runs-end-so = refl
 checked-table : Judgement → Judgement
 unfolding computed judged
 checked-table x = judged x
+
+pub verdicts-are-given : map judged verdicts ≡ verdicts
+unfolding checked-table verdicts
+verdicts-are-given = refl
 
 pub sections-are-judged-so : map judged sections ≡ sections
 unfolding checked-table sections

@@ -3,7 +3,7 @@ use Prim.Native.Nat.{ℕ, _+_, _-_, _*_, _/_}
 use mathlib.Core.List.{List, [], _∷_, _++_, map}
 use lib.ListN.{length, replicate}
 use Rattle.semantics.specs.Words.{Words}
-use Rattle.semantics.specs.Check.{Verdict, passes, check, call-fault}
+use Rattle.semantics.specs.Check.{Verdict, check, call-fault}
 use Rattle.semantics.specs.Rules.{Datum, unbounded}
 use Rattle.semantics.specs.Run.{Answer, Result, call}
 
@@ -129,6 +129,9 @@ pub record Judgement : Type 0 where
   pub table : Words
   pub verdict : Verdict
 
+abbrev pub gives : Words → Verdict → Judgement
+gives t v = record { table = t; verdict = v }
+
 unfoldable pub judged : Judgement → Judgement
 judged x = record { table = x .table; verdict = check (x .table) }
 
@@ -146,7 +149,7 @@ unfoldable pub answered : Request → Request
 answered x =
     record { table = x .table; inputs = x .inputs; registers = x .registers; values = x .values; bases = x .bases; ends = x .ends; verdict = call-fault (x .table) (x .inputs) (x .registers) (x .values) (x .bases) (x .ends) }
 
--- A call's arguments, and what it must give: the check's verdict, the answer, and every lent word.
+-- A call's arguments, and what it must give: the answer and every lent word.
 pub record Example : Type 0 where
   pub table : Words
   pub inputs : Words
@@ -154,13 +157,12 @@ pub record Example : Type 0 where
   pub values : Words
   pub bases : Words
   pub ends : Words
-  pub verdict : Verdict
   pub result : Result
 
 -- The same call with what the definitions give.
 unfoldable pub observed : Example → Example
 observed x =
-    record { table = x .table; inputs = x .inputs; registers = x .registers; values = x .values; bases = x .bases; ends = x .ends; verdict = check (x .table); result = call (x .table) (x .inputs) (x .registers) (x .values) (x .bases) (x .ends) }
+    record { table = x .table; inputs = x .inputs; registers = x .registers; values = x .values; bases = x .bases; ends = x .ends; result = call (x .table) (x .inputs) (x .registers) (x .values) (x .bases) (x .ends) }
 
 -- An answer and the words of memory, as a result.
 abbrev pub answer-with : Answer → List Datum → Result
@@ -168,9 +170,9 @@ answer-with a m =
     record { answer = a; values = map (λ (x : Datum). x .value) m; bases = map (λ (x : Datum). x .base) m; ends = map (λ (x : Datum). x .end) m }
 
 -- A call over lists of this length. They arrive with 7, 8 and 9 in every word.
-abbrev pub called : Words → Words → Words → ℕ → Verdict → Result → Example
-called t inputs registers len v r =
-    record { table = t; inputs = inputs; registers = registers; values = replicate len 7; bases = replicate len 8; ends = replicate len 9; verdict = v; result = r }
+abbrev pub called : Words → Words → Words → ℕ → Result → Example
+called t inputs registers len r =
+    record { table = t; inputs = inputs; registers = registers; values = replicate len 7; bases = replicate len 8; ends = replicate len 9; result = r }
 
 -- The lists as they arrived.
 abbrev pub untouched : ℕ → List Datum
@@ -179,7 +181,7 @@ untouched len = replicate len (record { value = 7; base = 8; end = 9 })
 -- A run of a table that passes; m has the words from 1 to U - 1, as document 01 prints them. Word 0 and the words from U on are clear.
 abbrev pub ends-so : Words → Words → Words → ℕ → Answer → List Datum → Example
 ends-so t inputs registers len a m =
-    called t inputs registers len passes (answer-with a (unbounded 0 ∷ m ++ replicate (len - 1 - length m) (unbounded 0)))
+    called t inputs registers len (answer-with a (unbounded 0 ∷ m ++ replicate (len - 1 - length m) (unbounded 0)))
 
 abbrev pub bounded : ℕ → ℕ → ℕ → Datum
 bounded v b e = record { value = v; base = b; end = e }

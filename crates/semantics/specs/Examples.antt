@@ -1,33 +1,46 @@
 -- Document 01's own examples, its refusals, starred runs and routine A, as one table each, and registers and steps along records beside them:
 -- what is called, and what must be answered. proofs/Examples.antt computes the tables.
 use Prim.Native.Nat.{ℕ, _+_}
-use mathlib.Core.List.{List, [], _∷_, _++_}
+use mathlib.Core.List.{List, [], _∷_, _++_, map}
 use lib.ListN.{replicate}
 use Rattle.semantics.specs.Words.{Words}
-use Rattle.semantics.specs.Check.{passes, refused}
+use Rattle.semantics.specs.Check.{Verdict, passes, refused}
 use Rattle.semantics.specs.Rules.{Datum, unbounded}
 use Rattle.semantics.specs.Run.{done, abort, out-of-memory, Answer, refusal, ending}
-use Rattle.semantics.specs.ExampleTables.{types, of-type, Term, Var, Deref, Field, Num, Sum, Read, Address, Cast, Malloc, Command, _:=_, routine, Example, called, answer-with, untouched, ends-so, bounded, no-registers}
+use Rattle.semantics.specs.ExampleTables.{types, of-type, Term, Var, Deref, Field, Num, Sum, Read, Address, Cast, Malloc, Command, _:=_, routine, Judgement, gives, Example, called, answer-with, untouched, ends-so, bounded, no-registers}
 
--- ---- "What is turned away", one example for each number that the check gives; the lent words stay as they came
+-- ---- "What is turned away", one example for each number that the check gives
 
-abbrev refused-table : Words → ℕ → ℕ → Example
-refused-table t n p = called t [] no-registers 2 (refused n p) (answer-with (refusal n p) (untouched 2))
+abbrev printed : List Judgement
+printed =
+    gives (0 ∷ 0 ∷ 0 ∷ []) (refused 1 3)
+    ∷ gives (0 ∷ 0 ∷ 0 ∷ 0 ∷ 0 ∷ 0 ∷ 9 ∷ []) (refused 2 6)
+    ∷ gives (33 ∷ []) (refused 3 0)
+    ∷ gives (1 ∷ 0 ∷ 0 ∷ 0 ∷ 0 ∷ 0 ∷ 0 ∷ []) (refused 4 1)
+    ∷ gives (0 ∷ 0 ∷ 0 ∷ 1 ∷ 2 ∷ 0 ∷ 0 ∷ []) (refused 5 4)
+    ∷ gives (0 ∷ 0 ∷ 2 ∷ 0 ∷ 0 ∷ 0 ∷ 0 ∷ 0 ∷ []) (refused 6 4)
+    ∷ gives (0 ∷ 0 ∷ 0 ∷ 0 ∷ 1 ∷ 11 ∷ 0 ∷ 0 ∷ 0 ∷ []) (refused 7 5)
+    ∷ gives (0 ∷ 0 ∷ 0 ∷ 1 ∷ 1 ∷ 3 ∷ 1 ∷ 0 ∷ 0 ∷ 6 ∷ 0 ∷ 0 ∷ 2 ∷ 1 ∷ 0 ∷ 0 ∷ []) (refused 8 12)
+    ∷ gives (0 ∷ 0 ∷ 0 ∷ 0 ∷ 1 ∷ 4 ∷ 7 ∷ 0 ∷ 0 ∷ []) (refused 9 5)
+    ∷ []
+
+unfoldable pub verdicts : List Judgement
+verdicts = printed
+
+-- A call with such a table; the lent words stay as they came.
+abbrev refusal-of : Verdict → Answer
+refusal-of passes = ending done 0
+refusal-of (refused n p) = refusal n p
+
+abbrev refused-call : Judgement → Example
+refused-call x = called (x .table) [] no-registers 2 (answer-with (refusal-of (x .verdict)) (untouched 2))
 
 unfoldable pub refusals : List Example
 refusals =
-    refused-table (0 ∷ 0 ∷ 0 ∷ []) 1 3
-    ∷ refused-table (0 ∷ 0 ∷ 0 ∷ 0 ∷ 0 ∷ 0 ∷ 9 ∷ []) 2 6
-    ∷ refused-table (33 ∷ []) 3 0
-    ∷ refused-table (1 ∷ 0 ∷ 0 ∷ 0 ∷ 0 ∷ 0 ∷ 0 ∷ []) 4 1
-    ∷ refused-table (0 ∷ 0 ∷ 0 ∷ 1 ∷ 2 ∷ 0 ∷ 0 ∷ []) 5 4
-    ∷ refused-table (0 ∷ 0 ∷ 2 ∷ 0 ∷ 0 ∷ 0 ∷ 0 ∷ 0 ∷ []) 6 4
-    ∷ refused-table (0 ∷ 0 ∷ 0 ∷ 0 ∷ 1 ∷ 11 ∷ 0 ∷ 0 ∷ 0 ∷ []) 7 5
-    ∷ refused-table (0 ∷ 0 ∷ 0 ∷ 1 ∷ 1 ∷ 3 ∷ 1 ∷ 0 ∷ 0 ∷ 6 ∷ 0 ∷ 0 ∷ 2 ∷ 1 ∷ 0 ∷ 0 ∷ []) 8 12
-    ∷ refused-table (0 ∷ 0 ∷ 0 ∷ 0 ∷ 1 ∷ 4 ∷ 7 ∷ 0 ∷ 0 ∷ []) 9 5
-    ∷ called (0 ∷ 0 ∷ 0 ∷ 0 ∷ 0 ∷ 0 ∷ []) [] no-registers 0 passes (answer-with (refusal 10 0) [])
-    ∷ called (0 ∷ 0 ∷ 0 ∷ 1 ∷ 1 ∷ 0 ∷ 0 ∷ []) (5 ∷ []) no-registers 2 passes (answer-with (refusal 11 0) (untouched 2))
-    ∷ []
+    map refused-call printed
+    ++ (called (0 ∷ 0 ∷ 0 ∷ 0 ∷ 0 ∷ 0 ∷ []) [] no-registers 0 (answer-with (refusal 10 0) [])
+    ∷ called (0 ∷ 0 ∷ 0 ∷ 1 ∷ 1 ∷ 0 ∷ 0 ∷ []) (5 ∷ []) no-registers 2 (answer-with (refusal 11 0) (untouched 2))
+    ∷ [])
 
 -- ---- "Runs to compare"
 
@@ -103,7 +116,7 @@ runs =
 -- Two variables, a pointer to void and an int, in memory of 6 words; refused for this register list.
 abbrev refused-list : Words → ℕ → ℕ → Example
 refused-list l n p =
-    called (types [] [] (1 ∷ 0 ∷ []) ++ routine []) (0 ∷ 0 ∷ []) l 6 passes (answer-with (refusal n p) (untouched 6))
+    called (types [] [] (1 ∷ 0 ∷ []) ++ routine []) (0 ∷ 0 ∷ []) l 6 (answer-with (refusal n p) (untouched 6))
 
 unfoldable pub refused-lists : List Example
 refused-lists =

@@ -5,10 +5,7 @@ use mathlib.Core.List.{List, [], _∷_, _++_}
 use lib.ListN.{length, replicate, take}
 use Rattle.semantics.specs.Words.{Words}
 use Rattle.semantics.specs.Check.{Verdict, passes, refused}
-use Rattle.semantics.specs.ExampleTables.{section, of-type, types, node, var, deref, field, num, sum, read, address, cast, size, malloc, assign, Judgement}
-
-abbrev gives : Words → Verdict → Judgement
-gives t v = record { table = t; verdict = v }
+use Rattle.semantics.specs.ExampleTables.{section, of-type, types, node, var, deref, field, num, sum, read, address, cast, size, malloc, assign, Judgement, gives}
 
 -- ---- 1 to 3: sections, counts and words over
 
@@ -90,7 +87,7 @@ declarations =
     ∷ gives (with-fields (of-type 0 1 ∷ of-type 2 0 ∷ of-type 0 1 ∷ [])) (refused 5 6)
     ∷ gives (with-fields (of-type 0 1 ∷ of-type 0 0 ∷ of-type 2 1 ∷ [])) (refused 4 7)
     -- a target is a type, its own entry's or a later one's too, or a record; one more of either is unknown
-    ∷ gives (with-types (2 ∷ 4 ∷ 65537 ∷ 65536 ∷ 0 ∷ 1 ∷ []) (7 ∷ []) ) passes
+    ∷ gives (with-types (2 ∷ 4 ∷ 65537 ∷ 65536 ∷ 0 ∷ 1 ∷ []) (7 ∷ [])) passes
     ∷ gives (with-types (0 ∷ 1 ∷ 5 ∷ []) []) (refused 5 13)
     ∷ gives (with-types (0 ∷ 65535 ∷ []) []) (refused 5 12)
     ∷ gives (with-types (0 ∷ 65538 ∷ []) []) (refused 5 12)
