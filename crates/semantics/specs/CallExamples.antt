@@ -110,7 +110,15 @@ register-lists =
 -- A call of the table without entries over these lists is refused with 10, and the lists stay.
 abbrev refused-lent : Words → Words → Words → Example
 refused-lent values bases ends =
-    record { table = replicate 6 0; inputs = []; registers = no-registers; values = values; bases = bases; ends = ends; result = record { answer = refusal 10 0; values = values; bases = bases; ends = ends } }
+    record {
+      table = replicate 6 0;
+      inputs = [];
+      registers = no-registers;
+      values = values;
+      bases = bases;
+      ends = ends;
+      result = record { answer = refusal 10 0; values = values; bases = bases; ends = ends };
+    }
 
 unfoldable pub unequal-lists : List Example
 unequal-lists =

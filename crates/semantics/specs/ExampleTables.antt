@@ -147,7 +147,15 @@ pub record Request : Type 0 where
 
 unfoldable pub answered : Request → Request
 answered x =
-    record { table = x .table; inputs = x .inputs; registers = x .registers; values = x .values; bases = x .bases; ends = x .ends; verdict = call-fault (x .table) (x .inputs) (x .registers) (x .values) (x .bases) (x .ends) }
+    record {
+      table = x .table;
+      inputs = x .inputs;
+      registers = x .registers;
+      values = x .values;
+      bases = x .bases;
+      ends = x .ends;
+      verdict = call-fault (x .table) (x .inputs) (x .registers) (x .values) (x .bases) (x .ends);
+    }
 
 -- A call's arguments, and what it must give: the answer and every lent word.
 pub record Example : Type 0 where
@@ -162,7 +170,15 @@ pub record Example : Type 0 where
 -- The same call with what the definitions give.
 unfoldable pub observed : Example → Example
 observed x =
-    record { table = x .table; inputs = x .inputs; registers = x .registers; values = x .values; bases = x .bases; ends = x .ends; result = call (x .table) (x .inputs) (x .registers) (x .values) (x .bases) (x .ends) }
+    record {
+      table = x .table;
+      inputs = x .inputs;
+      registers = x .registers;
+      values = x .values;
+      bases = x .bases;
+      ends = x .ends;
+      result = call (x .table) (x .inputs) (x .registers) (x .values) (x .bases) (x .ends);
+    }
 
 -- An answer and the words of memory, as a result.
 abbrev pub answer-with : Answer → List Datum → Result

@@ -12,7 +12,9 @@ use Rattle.semantics.specs.ExampleTables.{section, of-type, types, node,
 -- A table with entries in all sections, of which no two have the same number: 4 records, 5 fields, 2 pointers, 3 variables, 6 nodes, 1 command.
 abbrev full : Words
 full =
-    types ((of-type 0 1 ∷ []) ∷ (of-type 0 1 ∷ of-type 0 1 ∷ []) ∷ (of-type 0 1 ∷ []) ∷ (of-type 0 1 ∷ []) ∷ []) (0 ∷ 1 ∷ []) (0 ∷ 1 ∷ 2 ∷ [])
+    types
+    ((of-type 0 1 ∷ []) ∷ (of-type 0 1 ∷ of-type 0 1 ∷ []) ∷ (of-type 0 1 ∷ []) ∷ (of-type 0 1 ∷ []) ∷ [])
+    (0 ∷ 1 ∷ []) (0 ∷ 1 ∷ 2 ∷ [])
     ++ section (var 0 ∷ num 1 ∷ num 2 ∷ sum 1 2 ∷ num 3 ∷ sum 3 4 ∷ [])
     ++ section (assign 0 5 ∷ [])
 
@@ -69,7 +71,7 @@ unfoldable pub declarations : List Judgement
 declarations =
     -- "record without fields", also where it is the last, and where the sum is right or wrong
     gives (2 ∷ 1 ∷ 0 ∷ 1 ∷ 0 ∷ 1 ∷ 0 ∷ 0 ∷ 0 ∷ 0 ∷ []) (refused 4 2)
-    ∷ gives (3 ∷ 1 ∷ 0 ∷ 0 ∷ 9 ∷ 0 ∷ 1 ∷ 0 ∷ 1 ∷ 0 ∷ 1 ∷ 0 ∷ 1 ∷ 0 ∷ 1 ∷ 0 ∷ 1 ∷ 0 ∷ 1 ∷ 0 ∷ 1 ∷ 0 ∷ 1 ∷ 0 ∷ 0 ∷ 0 ∷ 0 ∷ []) (refused 4 2)
+    ∷ gives (3 ∷ 1 ∷ 0 ∷ 0 ∷ 2 ∷ 0 ∷ 1 ∷ 0 ∷ 1 ∷ 0 ∷ 0 ∷ 0 ∷ 0 ∷ []) (refused 4 2)
     -- "fields don't add up to section 2's count", below and above it, told before the fields' own words
     ∷ gives (with-fields (of-type 0 1 ∷ of-type 0 1 ∷ of-type 0 1 ∷ [])) passes
     ∷ gives (with-fields (of-type 9 0 ∷ of-type 0 1 ∷ [])) (refused 4 3)
