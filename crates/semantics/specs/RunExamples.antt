@@ -95,10 +95,13 @@ memory-runs =
     -- each variable assigned
     ∷ run ((x := Num 7) ∷ (r := Cast (Num 8) record-1*) ∷ (v := Cast (Num 9) void*) ∷ (p := Cast (Num 10) int*) ∷ [])
     (ending done 5) (left 7 (unbounded 10) (unbounded 9) (unbounded 8) [])
-    -- request 1: three registers, one without words, for variables in another order; then the first block
+    -- request 1: registers for variables in another order, "With n = 0 it starts as 0 without bounds"; then the first block
     ∷ from-registers (3 ∷ 3 ∷ 2 ∷ 71 ∷ 72 ∷ 1 ∷ 0 ∷ 2 ∷ 1 ∷ 73 ∷ []) []
     (ending done 8) (left 30 none (bounded 7 7 8) (bounded 5 5 7) (unbounded 71 ∷ unbounded 72 ∷ unbounded 73 ∷ []))
-    ∷ from-registers (3 ∷ 3 ∷ 2 ∷ 71 ∷ 72 ∷ 1 ∷ 0 ∷ 2 ∷ 1 ∷ 73 ∷ []) (m ∷ (at p := Num 9) ∷ (x := Read (Deref (as-plus int* r 1))) ∷ [])
+    ∷ from-registers (2 ∷ 2 ∷ 1 ∷ 71 ∷ 1 ∷ 0 ∷ []) []
+    (ending done 6) (left 30 none (bounded 5 5 6) none (unbounded 71 ∷ []))
+    ∷ from-registers (3 ∷ 3 ∷ 2 ∷ 71 ∷ 72 ∷ 1 ∷ 0 ∷ 2 ∷ 1 ∷ 73 ∷ [])
+    (m ∷ (at p := Num 9) ∷ (x := Read (Deref (as-plus int* r 1))) ∷ [])
     (ending done 10)
     (left 72 (bounded 8 8 10) (bounded 7 7 8) (bounded 5 5 7) (unbounded 71 ∷ unbounded 72 ∷ unbounded 73 ∷ unbounded 9 ∷ none ∷ []))
     ∷ []
@@ -262,6 +265,7 @@ malloc-runs =
     ∷ run ((v := Malloc (Num 8)) ∷ []) (ending (out-of-memory 0) 5) (left 30 none none none [])
     ∷ run ((v := Malloc (Num 4294967295)) ∷ []) (ending (out-of-memory 0) 5) (left 30 none none none [])
     ∷ run ((v := Malloc (Read x)) ∷ []) (ending (out-of-memory 0) 5) (left 30 none none none [])
+    ∷ run ((v := Malloc (obtained int 2)) ∷ []) (ending done 12) (left 30 none (bounded 7 7 12) none (clear 7))
     ∷ run (m ∷ (v := Malloc (Num 5)) ∷ []) (ending done 12) (left 30 (bounded 5 5 7) (bounded 7 7 12) none (clear 7))
     ∷ run (m ∷ (v := Malloc (Num 6)) ∷ []) (ending (out-of-memory 1) 7) (left 30 (bounded 5 5 7) none none (clear 2))
     -- "value U, bounds [U, U + n), and U rises by n. The new words are clear": after the words before them were written
