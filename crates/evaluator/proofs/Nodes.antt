@@ -1,14 +1,12 @@
 -- A node that makes sense: its kind, its children, and its tree.
-use Prim.Native.Nat.{ℕ, _≤_, _<_}
+use Prim.Native.Nat.{ℕ, zero, suc, _≤_, _<_}
 use mathlib.Core.Bool.{Bool, true, false, _&&_}
 use mathlib.Core.Path.{_≡_, refl, ap, ap₂, _∙_}
 use mathlib.Core.List.{List}
 use native.Mathlib.Omega.{arith}
 use native.Mathlib.Decide.{decLt}
-use borrow.Author.Tests.{eqb-true}
-use lib.Dec.{eqb}
 use lib.ListN.{getD, List·getD-eq-default}
-use Rattle.semantics.specs.Words.{Words, if_then_else_, grow}
+use Rattle.semantics.specs.Words.{Words, grow}
 use Rattle.semantics.specs.Table.{nodes, item, is-pointer, pointed-record, field-offset, field-count, size-of, Kind, variable, deref, field, constant, sum, read, address, cast, size, malloc, unknown, kind-of, Sort, sort-of, node-kind, node-a, node-b, node-type}
 use Rattle.semantics.specs.Table as Table
 use Rattle.semantics.specs.Syntax.{Place, Variable, Deref, Field, Value, Number, Sum, Read, Address, Cast, Malloc, Tree, senseless, as-place, as-value, step-of, tree-by-kind, tree-rule, trees-below, tree-of, place-of, value-of}
@@ -25,35 +23,18 @@ Range Table.neither k = Unit {0}
 
 kind-range : (k : ℕ) → Range (sort-of (kind-of k)) k
 unfolding kind-of
-kind-range k =
-    go (eqb k 1) (eqb k 2) (eqb k 3) (eqb k 4) (eqb k 5) (eqb k 6) (eqb k 7) (eqb k 8) (eqb k 9) (eqb k 10)
-    (eqb-true k 1) (eqb-true k 2) (eqb-true k 3) (eqb-true k 4) (eqb-true k 5) (eqb-true k 6) (eqb-true k 7) (eqb-true k 8) (eqb-true k 9) (eqb-true k 10)
-  where
-    go : (b₁ b₂ b₃ b₄ b₅ b₆ b₇ b₈ b₉ b₁₀ : Bool)
-        → (b₁ ≡ true → k ≡ 1) → (b₂ ≡ true → k ≡ 2) → (b₃ ≡ true → k ≡ 3) → (b₄ ≡ true → k ≡ 4) → (b₅ ≡ true → k ≡ 5)
-        → (b₆ ≡ true → k ≡ 6) → (b₇ ≡ true → k ≡ 7) → (b₈ ≡ true → k ≡ 8) → (b₉ ≡ true → k ≡ 9) → (b₁₀ ≡ true → k ≡ 10)
-        → Range (sort-of (
-        if b₁ then variable else
-        if b₂ then deref else
-        if b₃ then field else
-        if b₄ then constant else
-        if b₅ then sum else
-        if b₆ then read else
-        if b₇ then address else
-        if b₈ then cast else
-        if b₉ then size else
-        if b₁₀ then malloc else unknown)) k
-    go true b₂ b₃ b₄ b₅ b₆ b₇ b₈ b₉ b₁₀ e₁ e₂ e₃ e₄ e₅ e₆ e₇ e₈ e₉ e₁₀ = omega (arith, e₁ refl)
-    go false true b₃ b₄ b₅ b₆ b₇ b₈ b₉ b₁₀ e₁ e₂ e₃ e₄ e₅ e₆ e₇ e₈ e₉ e₁₀ = omega (arith, e₂ refl)
-    go false false true b₄ b₅ b₆ b₇ b₈ b₉ b₁₀ e₁ e₂ e₃ e₄ e₅ e₆ e₇ e₈ e₉ e₁₀ = omega (arith, e₃ refl)
-    go false false false true b₅ b₆ b₇ b₈ b₉ b₁₀ e₁ e₂ e₃ e₄ e₅ e₆ e₇ e₈ e₉ e₁₀ = omega (arith, e₄ refl)
-    go false false false false true b₆ b₇ b₈ b₉ b₁₀ e₁ e₂ e₃ e₄ e₅ e₆ e₇ e₈ e₉ e₁₀ = omega (arith, e₅ refl)
-    go false false false false false true b₇ b₈ b₉ b₁₀ e₁ e₂ e₃ e₄ e₅ e₆ e₇ e₈ e₉ e₁₀ = omega (arith, e₆ refl)
-    go false false false false false false true b₈ b₉ b₁₀ e₁ e₂ e₃ e₄ e₅ e₆ e₇ e₈ e₉ e₁₀ = omega (arith, e₇ refl)
-    go false false false false false false false true b₉ b₁₀ e₁ e₂ e₃ e₄ e₅ e₆ e₇ e₈ e₉ e₁₀ = omega (arith, e₈ refl)
-    go false false false false false false false false true b₁₀ e₁ e₂ e₃ e₄ e₅ e₆ e₇ e₈ e₉ e₁₀ = omega (arith, e₉ refl)
-    go false false false false false false false false false true e₁ e₂ e₃ e₄ e₅ e₆ e₇ e₈ e₉ e₁₀ = omega (arith, e₁₀ refl)
-    go false false false false false false false false false false e₁ e₂ e₃ e₄ e₅ e₆ e₇ e₈ e₉ e₁₀ = tt
+kind-range zero = tt
+kind-range (suc zero) = omega arith
+kind-range (suc (suc zero)) = omega arith
+kind-range (suc (suc (suc zero))) = omega arith
+kind-range (suc (suc (suc (suc zero)))) = omega arith
+kind-range (suc (suc (suc (suc (suc zero))))) = omega arith
+kind-range (suc (suc (suc (suc (suc (suc zero)))))) = omega arith
+kind-range (suc (suc (suc (suc (suc (suc (suc zero))))))) = omega arith
+kind-range (suc (suc (suc (suc (suc (suc (suc (suc zero)))))))) = omega arith
+kind-range (suc (suc (suc (suc (suc (suc (suc (suc (suc zero))))))))) = omega arith
+kind-range (suc (suc (suc (suc (suc (suc (suc (suc (suc (suc zero)))))))))) = omega arith
+kind-range (suc (suc (suc (suc (suc (suc (suc (suc (suc (suc (suc n))))))))))) = tt
 
 -- A tree that is a place comes of a place's kind, one that is a value of a value's.
 module _ {vars : ℕ} (t : Words) (n a b : ℕ) (tree : ℕ → Tree) where

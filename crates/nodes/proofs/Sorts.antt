@@ -3,10 +3,12 @@ use Prim.Native.Nat.{ℕ, _+_, _≤_, _<_, _%_}
 use mathlib.Core.Bool.{Bool, true, false, not, true≢false}
 use mathlib.Core.Path.{_≡_, refl, sym, _∙_}
 use native.Mathlib.Omega.{arith}
-use borrow.Author.Tests.{lt-ltb, le-ltb, ltb-true, eqb-true, ne-eqb}
+use native.Mathlib.Decide.{decLt}
+use borrow.Author.Tests.{lt-ltb, le-ltb, ltb-true, eqb-true}
 use lib.Dec.{ltb, eqb}
+use lib.ListN.{getD, List·getD-eq-default}
 use Rattle.semantics.specs.Words.{Words, word, if_then_else_}
-use Rattle.semantics.specs.Table.{known-type, unknown, kind-of, Sort, place, value, neither, sort-of, node-kind, types-below, node-type}
+use Rattle.semantics.specs.Table.{known-type, unknown, kinds, kind-of, Sort, place, value, neither, sort-of, node-kind, types-below, node-type}
 use Rattle.semantics.specs.Check.{passes, _or-else_, require, each, same-sort, is-child, node-fault}
 use Rattle.semantics.proofs.Passed.{or-else-passes, require-passes, each-passes}
 use Rattle.semantics.proofs.Trees.{types-at, types-known}
@@ -16,11 +18,21 @@ use Rattle.nodes.proofs.Lookups.{few-pointers}
 
 -- ---- sorts
 
+-- In two steps, since each number that k is not is a case of its own.
+below-six : (k : ℕ) → k < 11 → (k ≡ 6 → ⊥) → (k ≡ 7 → ⊥) → (k ≡ 8 → ⊥) → (k ≡ 9 → ⊥) → (k ≡ 10 → ⊥) → k < 6
+below-six k less h₆ h₇ h₈ h₉ h₁₀ = omega arith
+
+only-zero : (k : ℕ) → k < 6 → (k ≡ 1 → ⊥) → (k ≡ 2 → ⊥) → (k ≡ 3 → ⊥) → (k ≡ 4 → ⊥) → (k ≡ 5 → ⊥) → k ≡ 0
+only-zero k less h₁ h₂ h₃ h₄ h₅ = omega arith
+
 pub unknown-kind : (k : ℕ) → (k ≡ 1 → ⊥) → (k ≡ 2 → ⊥) → (k ≡ 3 → ⊥) → (k ≡ 4 → ⊥) → (k ≡ 5 → ⊥) → (k ≡ 6 → ⊥) → (k ≡ 7 → ⊥) → (k ≡ 8 → ⊥) → (k ≡ 9 → ⊥) → (k ≡ 10 → ⊥)
     → kind-of k ≡ unknown
 unfolding kind-of
-unknown-kind k h₁ h₂ h₃ h₄ h₅ h₆ h₇ h₈ h₉ h₁₀ =
-    rw (ne-eqb k 1 h₁, ne-eqb k 2 h₂, ne-eqb k 3 h₃, ne-eqb k 4 h₄, ne-eqb k 5 h₅, ne-eqb k 6 h₆, ne-eqb k 7 h₇, ne-eqb k 8 h₈, ne-eqb k 9 h₉, ne-eqb k 10 h₁₀)
+unknown-kind k h₁ h₂ h₃ h₄ h₅ h₆ h₇ h₈ h₉ h₁₀ = go (decLt k 11)
+  where
+    go : Dec (k < 11) → getD kinds k unknown ≡ unknown
+    go (yes less) = rw (only-zero k (below-six k less h₆ h₇ h₈ h₉ h₁₀) h₁ h₂ h₃ h₄ h₅)
+    go (no more) = List·getD-eq-default kinds unknown {n = k} (omega arith)
 
 -- The sort of each kind below 11, as the ranges have it.
 range : ℕ → ℕ
@@ -45,8 +57,8 @@ unfolding range
 neither-low k h = rw (lt-ltb k 1 h) at (in-range k (omega arith))
 
 pub neither-high : (k : ℕ) → 11 ≤ k → 256 ≡ sort-number (sort-of (kind-of k))
-neither-high k h =
-    rw (unknown-kind k (λ e. omega arith) (λ e. omega arith) (λ e. omega arith) (λ e. omega arith) (λ e. omega arith) (λ e. omega arith) (λ e. omega arith) (λ e. omega arith) (λ e. omega arith) (λ e. omega arith))
+unfolding kind-of
+neither-high k h = rw (List·getD-eq-default kinds unknown h)
 
 pub sort-most : (s : Sort) → sort-number s ≤ 256
 sort-most place = omega arith

@@ -2,8 +2,9 @@
 -- All of this is total: where a table is cut short or makes no sense, a word past its end counts as 0, and the check refuses it.
 use Prim.Native.Nat.{ℕ, zero, suc, _+_, _*_, _-_}
 use mathlib.Core.Bool.{Bool, _&&_, _||_}
-use mathlib.Core.List.{[], _∷_, _++_}
+use mathlib.Core.List.{List, [], _∷_, _++_}
 use lib.Dec.{leb, ltb, eqb}
+use lib.ListN.{getD}
 use Rattle.semantics.specs.Words.{Words, word, if_then_else_, sum-below, least-below, grow}
 
 -- "six sections in fixed order, each after its count. Numbering starts at 0 everywhere."
@@ -112,18 +113,11 @@ size-of t x = if ltb x (record-target 0) then 1 else field-offset t (x - record-
 pub data Kind : Type 0 where
   variable deref field constant sum read address cast size malloc unknown : Kind
 
+abbrev pub kinds : List Kind
+kinds = unknown ∷ variable ∷ deref ∷ field ∷ constant ∷ sum ∷ read ∷ address ∷ cast ∷ size ∷ malloc ∷ []
+
 unfoldable pub kind-of : ℕ → Kind
-kind-of w =
-    if eqb w 1 then variable else
-    if eqb w 2 then deref else
-    if eqb w 3 then field else
-    if eqb w 4 then constant else
-    if eqb w 5 then sum else
-    if eqb w 6 then read else
-    if eqb w 7 then address else
-    if eqb w 8 then cast else
-    if eqb w 9 then size else
-    if eqb w 10 then malloc else unknown
+kind-of w = getD kinds w unknown
 
 pub data Sort : Type 0 where
   place value neither : Sort
