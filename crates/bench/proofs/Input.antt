@@ -7,7 +7,7 @@ use native.Mathlib.Omega.{arith}
 use borrow.Author.Tests.{lt-ltb}
 use lib.ListN.{length, take}
 use lib.Seq.{length-take-le}
-use Rattle.text.specs.Scan.{take-bytes, Scanned, Scans}
+use Rattle.text.specs.Scan.{take-bytes, Scans}
 use Rattle.text.specs.declared.Scanner.{Scanner}
 use Rattle.bench.specs.declared.Progress.{Progress}
 use Rattle.bench.specs.Input.{Reads, Read}

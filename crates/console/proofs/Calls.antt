@@ -10,7 +10,7 @@ use lib.ListN.{length, take, drop, getD, replicate, length-replicate}
 use lib.Seq.{length-take-le}
 use Rattle.semantics.specs.Words.{Words}
 use Rattle.semantics.specs.Check.{Verdict, passes, refused, call-fault}
-use Rattle.semantics.specs.Run.{Answer, refusal, ending, Result, result-of, call-by, call}
+use Rattle.semantics.specs.Run.{Answer, refusal, Result, call-by, call}
 use Rattle.semantics.proofs.Safety.{spatial-safety, unused-fits}
 use Rattle.stream.specs.Items.{Item, item-room, room-of, Puts-items}
 use Rattle.stream.proofs.Items.{puts-none, puts-word, puts-then}
@@ -25,7 +25,7 @@ use Rattle.lines.proofs.Lines.{word-room, ending-room}
 use Rattle.machine.specs.Run.{answer-of, Is}
 use Rattle.machine.specs.declared.Answer as machine-answer
 use Rattle.lines.specs.Lines.{ending-line, unused, word-line}
-use Rattle.console.specs.Output.{lines-to, memory-lines, answer-lines, input-line, result-bytes, Lists, lists, call-in, output, over, lists-over, lists-after, has-room, outcome-of, finished, answered, Answers, Called, Ran}
+use Rattle.console.specs.Output.{lines-to, memory-lines, answer-lines, input-line, result-bytes, Lists, lists, call-in, output, over, lists-after, has-room, outcome-of, finished, answered, Answers, Called, Ran}
 use Rattle.console.specs.declared.Output.the-variants.{Printed, TooShort}
 
 -- ---- the loop over the memory

@@ -13,7 +13,7 @@ use Rattle.text.specs.Scan.{within, Finished}
 use Rattle.text.specs.declared.Scanner.{Scanner}
 use Rattle.request.specs.declared.Request.{Request}
 use Rattle.request.specs.declared.Request.the-variants.{Run, Malformed}
-use Rattle.request.specs.Request.{Demand, run, input, demand-after, demand-of, demand, stored, request-of, Parts, Requested}
+use Rattle.request.specs.Request.{Demand, run, input, demand-after, demand-of, demand, stored, request-of, Requested}
 
 refuse : (t : Bool) (x y : Demand) → (t ≡ true → ⊥) → (if t then x else y) ≡ y
 refuse true x y deny = absurd (deny refl)

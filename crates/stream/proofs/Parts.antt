@@ -1,15 +1,14 @@
 -- Laws of parts: what a byte that is passed or found says of the bytes before the first b.
-use Prim.Native.Nat.{ℕ, suc, _+_, _-_, _≤_, _<_}
-use mathlib.Core.Bool.{Bool, true, false}
-use mathlib.Core.List.{List, [], _∷_}
-use mathlib.Core.Path.{_≡_, refl, sym, ap, _∙_}
+use Prim.Native.Nat.{ℕ, _+_, _-_, _≤_, _<_}
+use mathlib.Core.List.{List}
+use mathlib.Core.Path.{_≡_, refl}
 use native.Mathlib.Numerals.{add-one}
 use native.Mathlib.Omega.{arith}
 use borrow.Author.Tests.{eq-eqb, ne-eqb, lt-ltb, le-ltb, le-leb, lt-leb}
 use lib.ListN.{length, take, drop, getD, drop-of-length-le}
 use lib.Seq.{drop-cons, length-take-le}
 use Rattle.stream.specs.declared.Part.{Part}
-use Rattle.stream.specs.Parts.{before, open-part, closed-part, last-part, part-of, part-read, Read, Next-part, free-place}
+use Rattle.stream.specs.Parts.{before, open-part, closed-part, last-part, part-of, part-read, Next-part, free-place}
 
 module _ (bytes : List ℕ) (i b : ℕ) where
   pub before-found : i < length bytes → getD bytes i 0 ≡ b → i ≡ i + before b (drop i bytes)

@@ -6,7 +6,7 @@ ghost use mathlib.Core.List.{[], _∷_};
 ghost use mathlib.Core.Path.{_≡_};
 ghost use lib.ListN.{length, drop};
 ghost use Rattle.stream.specs.Items.{word, number, Puts-items};
-ghost use Rattle.stream.specs.Parts.{before, open-part, last-part, part-of, Next-part, free-place};
+ghost use Rattle.stream.specs.Parts.{before, open-part, part-of, Next-part, free-place};
 
 // Bytes `from` to `to` of a buffer that holds `filled` bytes of the input. The next part starts at `next`.
 pub struct Part {

@@ -1,5 +1,4 @@
 -- `bench::read_some` meets its contract: it scans the bytes that came. Assumes nothing.
-use native.Mathlib.Omega.{arith}
 use borrow.Author.Needs.{needs}
 use Rattle.bench.proofs.Input.{reads-none, reads-some}
 use Rattle.bench.proofs.read_some.Statement.{statement}

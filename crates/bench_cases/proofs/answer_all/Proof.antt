@@ -1,6 +1,5 @@
 -- `bench_cases::answer_all` is safe and ends: the measure is the number of turns that are left. Assumes nothing.
 use mathlib.Core.Path.{_≡_}
-use native.Mathlib.Omega.{arith}
 use lib.ListN.{length}
 use borrow.Author.Needs.{needs}
 use Rattle.bench_cases.proofs.answer_all.Statement.{statement}

@@ -1,5 +1,4 @@
 -- `console::run_request` meets its contract. Assumes nothing.
-use native.Mathlib.Omega.{arith}
 use borrow.Author.Needs.{needs}
 use Rattle.console.proofs.Calls.{ran}
 use Rattle.console.proofs.run_request.Statement.{statement}
