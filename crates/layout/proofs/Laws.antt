@@ -1,18 +1,16 @@
 -- Laws of verdicts, of loops over them and of the entries of a section.
-use Prim.Native.Nat.{ℕ, zero, suc, _+_, _*_, _≤_, _<_}
+use Prim.Native.Nat.{ℕ, zero, suc, _+_, _*_, _<_}
 use mathlib.Core.Bool.{Bool, true, false}
 use mathlib.Core.Path.{_≡_, refl, sym, ap, _∙_}
 use native.Mathlib.Omega.{arith}
 use native.Mathlib.Nat.{not-suc-le-zero}
 use native.Mathlib.Numerals.{add-one}
 use native.Mathlib.Decide.{ℕ-discrete}
-use lib.ListN.{length, set}
-use lib.Seq.{getD-set-same, getD-set-other}
 use Rattle.semantics.specs.Words.{Words, word, sum-below}
 use Rattle.semantics.specs.Table.{entry-words, item-place, item}
 use Rattle.semantics.specs.Check.{Verdict, passes, refused, _or-else_, require, each}
 use Rattle.layout.specs.Layout.{verdict-of, Stands}
-use Rattle.layout.specs.Types.{Tabulated, Checked}
+use Rattle.layout.specs.Types.{Checked}
 use Rattle.layout.specs.declared.Verdict as answer
 use Rattle.layout.specs.declared.Verdict.the-variants.{Refused}
 use Rattle.layout.specs.declared.Section.{Section}

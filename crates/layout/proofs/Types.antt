@@ -17,10 +17,10 @@ use Rattle.semantics.proofs.Tests.{and-true, or-true}
 use Rattle.semantics.proofs.Lists.{sum-below-≤, any-least}
 use Rattle.semantics.proofs.Passed.{Types-passed, section-ok, fields-in}
 use Rattle.layout.specs.Layout.{Stands}
-use Rattle.layout.specs.Types.{types-fault, slot, mark-below, Tabulated, Record-in, Marks, marked, first-left, entry-left}
+use Rattle.layout.specs.Types.{types-fault, slot, mark-below, Tabulated, Record-in, Marks, marked, records-fault, first-left, entry-left}
 use Rattle.layout.specs.Lists.{filled, by-verdict, passed-below}
 use Rattle.layout.specs.declared.Section.{Section}
-use Rattle.layout.proofs.Laws.{require-holds, require-refuses, or-else-pass, or-else-refuse, or-else-assoc, sum-more, place-at, item-at}
+use Rattle.layout.proofs.Laws.{require-holds, require-refuses, or-else-pass, or-else-refuse, sum-more, place-at, item-at}
 use Rattle.layout.proofs.Lists.{passed-to, passed-all}
 
 -- ---- known types and targets
@@ -261,11 +261,11 @@ module _ (t : Words) where
     past-records : (v : Verdict) → each (count t records) (record-fault t) or-else v ≡ v
     past-records v = or-else-pass (each (count t records) (record-fault t)) v (sym records-pass)
 
-    pub wrong-sum : (p : ℕ) → p ≡ count-place t fields → (first-field t (count t records) ≡ count t fields → ⊥) → each (count t records) (record-fault t) or-else field-sum-fault t ≡ refused 4 p
+    pub wrong-sum : (p : ℕ) → p ≡ count-place t fields → (first-field t (count t records) ≡ count t fields → ⊥) → records-fault t ≡ refused 4 p
     unfolding field-sum-fault
     wrong-sum p place wrong = past-records _ ∙ rw place (require-refuses _ 4 (count-place t fields) (ne-eqb _ _ wrong))
 
-    pub right-sum : first-field t (count t records) ≡ count t fields → each (count t records) (record-fault t) or-else field-sum-fault t ≡ passes
+    pub right-sum : first-field t (count t records) ≡ count t fields → records-fault t ≡ passes
     unfolding field-sum-fault
     right-sum e = past-records _ ∙ require-holds _ 4 (count-place t fields) (eq-eqb _ _ e)
 
@@ -300,14 +300,14 @@ Lists-left t first first′ entry entry′ = (first′ ≡ first-left t first) �
 
 module _ (t first entry : Words) where
   -- A record or their sum is refused.
-  pub none-left : {n p : ℕ} → each (count t records) (record-fault t) or-else field-sum-fault t ≡ refused n p → Lists-left t first first entry entry
+  pub none-left : {n p : ℕ} → records-fault t ≡ refused n p → Lists-left t first first entry entry
   unfolding first-left entry-left
-  none-left e = (rw e, rw (← (or-else-assoc (each (count t records) (record-fault t)) (field-sum-fault t) (each (count t fields) (field-fault t))), or-else-refuse (each (count t records) (record-fault t) or-else field-sum-fault t) _ e))
+  none-left e = (rw e, rw (or-else-refuse (records-fault t) (each (count t fields) (field-fault t)) e))
 
-  module _ (e : each (count t records) (record-fault t) or-else field-sum-fault t ≡ passes) {first′ : Words} (h : first′ ≡ filled first 0 (count t records + 1) (first-field t)) where
+  module _ (e : records-fault t ≡ passes) {first′ : Words} (h : first′ ≡ filled first 0 (count t records + 1) (first-field t)) where
     by-fields : entry-left t entry ≡ by-verdict (each (count t fields) (field-fault t)) (marked t (passed-below (count t pointers) (pointer-fault t)) entry) entry
     unfolding entry-left
-    by-fields = rw (← (or-else-assoc (each (count t records) (record-fault t)) (field-sum-fault t) (each (count t fields) (field-fault t))), or-else-pass (each (count t records) (record-fault t) or-else field-sum-fault t) _ e)
+    by-fields = rw (or-else-pass (records-fault t) (each (count t fields) (field-fault t)) e)
 
     -- A field is refused.
     pub first-alone : {n p : ℕ} → each (count t fields) (field-fault t) ≡ refused n p → Lists-left t first first′ entry entry

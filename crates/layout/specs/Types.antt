@@ -56,14 +56,18 @@ unfoldable pub marked : Words → ℕ → Words → Words
 marked t zero l = l
 marked t (suc n) l = set (marked t n l) (slot (item t pointers n 0)) (entry-type n)
 
+-- What is turned away of section 1: a record's own word, then the sum of fields.
+abbrev pub records-fault : Words → Verdict
+records-fault t = each (count t records) (record-fault t) or-else field-sum-fault t
+
 -- What the check leaves of first fields: those of all records, and their number after the last, where the records and their sum pass.
 unfoldable pub first-left : Words → Words → Words
-first-left t l = by-verdict (each (count t records) (record-fault t) or-else field-sum-fault t) (filled l 0 (count t records + 1) (first-field t)) l
+first-left t l = by-verdict (records-fault t) (filled l 0 (count t records + 1) (first-field t)) l
 
 -- And of pointers: where records, sum and fields pass, the entries before the first at fault.
 unfoldable pub entry-left : Words → Words → Words
 entry-left t l =
-    by-verdict (each (count t records) (record-fault t) or-else field-sum-fault t or-else each (count t fields) (field-fault t))
+    by-verdict (records-fault t or-else each (count t fields) (field-fault t))
     (marked t (passed-below (count t pointers) (pointer-fault t)) l)
     l
 

@@ -1,6 +1,6 @@
 -- `sizes::note_offsets` meets its contract. The loop's invariant: the fields before f are noted, and `offset` is the offset of field f.
 use Prim.Native.Nat.{_+_, _-_, _≤_}
-use mathlib.Core.Path.{_≡_, refl, sym, ap, _∙_}
+use mathlib.Core.Path.{_≡_, sym, ap}
 use native.Mathlib.Omega.{arith}
 use borrow.Author.Needs.{needs}
 use denote.Ref.{now}
