@@ -11,7 +11,7 @@ use Rattle.semantics.specs.Run.{cleared, registers-below, begin, command
 use Rattle.semantics.specs.ExampleTables.{Judgement, judged, Request, answered, Example, observed}
 use Rattle.semantics.specs.RefusalExamples.{sections, declarations, operands, node-types, commands-and-uses}
 use Rattle.semantics.specs.CallExamples.{arguments, register-lists, unequal-lists}
-use Rattle.semantics.specs.RunExamples.{memory-runs, order-runs, place-runs, value-runs, malloc-runs}
+use Rattle.semantics.specs.RunExamples.{memory-runs, order-runs, place-runs, value-runs, malloc-runs, touched, touches}
 use Rattle.semantics.specs.Examples.{verdicts, refusals, runs, refused-lists, register-runs, record-runs}
 
 -- To unfold this is to unfold every definition that a call comes down to.
@@ -104,3 +104,7 @@ value-runs-end-so = refl
 pub malloc-runs-end-so : map observed malloc-runs ≡ malloc-runs
 unfolding computed malloc-runs
 malloc-runs-end-so = refl
+
+pub touches-have-rules-so : map touched touches ≡ touches
+unfolding computed touched touches
+touches-have-rules-so = refl

@@ -1,11 +1,12 @@
 -- What a run does: document 01, "Memory" and "Steps", and what requests 1 and 2 add. For each sentence there are runs that would end
 -- otherwise if it were read otherwise by one word. proofs/Examples.antt computes each list.
 use Prim.Native.Nat.{ℕ}
+use mathlib.Core.Bool.{Bool, true, false}
 use mathlib.Core.List.{List, [], _∷_, _++_}
 use lib.ListN.{replicate}
 use Rattle.semantics.specs.Words.{Words}
-use Rattle.semantics.specs.Rules.{Datum, unbounded}
-use Rattle.semantics.specs.Run.{done, abort, out-of-memory, Answer, ending}
+use Rattle.semantics.specs.Rules.{Datum, unbounded, touchable}
+use Rattle.semantics.specs.Run.{cleared, done, abort, out-of-memory, Answer, ending}
 use Rattle.semantics.specs.ExampleTables.{types, of-type, Term, Var, Deref, Field, Num, Sum, Read, Address, Cast, Size, Malloc, Command, _:=_, routine, Example, ends-so, bounded, no-registers}
 
 -- ---- The setting: types 0 to 6, four variables, memory of 12 words
@@ -272,3 +273,19 @@ malloc-runs =
     ∷ run (m ∷ (at p := Num 8) ∷ (Deref (plus p 1) := Num 9) ∷ (v := Malloc (Num 2)) ∷ [])
     (ending done 9) (left 30 (bounded 5 5 7) (bounded 7 7 9) none (unbounded 8 ∷ unbounded 9 ∷ clear 2))
     ∷ []
+
+-- ---- "Reading or assigning word 0, or a word not below U, has no rule." No run comes there, so this is about the rule itself.
+
+-- Word w, and whether it has a rule with two variables, so with U 3, in memory of 5 words.
+pub record Touch : Type 0 where
+  pub w : ℕ
+  pub has-rule : Bool
+
+unfoldable pub touched : Touch → Touch
+touched t = record { w = t .w; has-rule = touchable (cleared (types [] [] (0 ∷ 0 ∷ []) ++ routine []) (0 ∷ 0 ∷ []) 5) (t .w) }
+
+abbrev touch : ℕ → Bool → Touch
+touch w b = record { w = w; has-rule = b }
+
+unfoldable pub touches : List Touch
+touches = touch 0 false ∷ touch 1 true ∷ touch 2 true ∷ touch 3 false ∷ touch 4 false ∷ touch 4294967295 false ∷ []
