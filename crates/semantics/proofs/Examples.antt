@@ -12,6 +12,7 @@ use Rattle.semantics.specs.ExampleTables.{Judgement, judged, Request, an
 use Rattle.semantics.specs.RefusalExamples.{sections, declarations, operands, node-types, commands-and-uses}
 use Rattle.semantics.specs.CallExamples.{arguments, register-lists, unequal-lists}
 use Rattle.semantics.specs.RunExamples.{memory-runs, order-runs, place-runs, value-runs, malloc-runs, touched, touches}
+use Rattle.semantics.specs.TreeExamples.{every-kind, roots, trees, failing, failures}
 use Rattle.semantics.specs.Examples.{verdicts, refusals, runs, refused-lists, register-runs, record-runs}
 
 -- To unfold this is to unfold every definition that a call comes down to.
@@ -108,3 +109,11 @@ malloc-runs-end-so = refl
 pub touches-have-rules-so : map touched touches ≡ touches
 unfolding computed touched touches
 touches-have-rules-so = refl
+
+pub trees-grow-so : map (tree-of every-kind) roots ≡ trees
+unfolding computed trees
+trees-grow-so = refl
+
+pub checks-fail-so : map failing failures ≡ failures
+unfolding computed failing failures
+checks-fail-so = refl

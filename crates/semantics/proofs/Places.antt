@@ -64,13 +64,11 @@ record Checked (p : Datum) (w k : ℕ) (l : Location) (s : State) (l′ : Locati
 
 checked-ok : (n : ℕ) (p : Datum) (w k : ℕ) (l : Location) (s : State) {l′ : Location} {s′ : State} → checked n p w k l s ≡ ok l′ s′ → Checked p w k l s l′ s′
 unfolding checked
-checked-ok n p w k l s {l′} {s′} e = go (in-bounds p w k) refl e
+checked-ok n p w k l s {l′} {s′} e = go (in-bounds p w k) _ refl e
   where
-    go : (b : Bool) → in-bounds p w k ≡ b
-        → (if b then ok l s else fails (record { node = n; at = w; words = k; base = p .base; end = p .end }) s) ≡ ok l′ s′
-        → Checked p w k l s l′ s′
-    go true t q = record { place = same-result q; state = same-state q; from = in-bounds-true p w k t .0; upto = in-bounds-true p w k t .1 }
-    go false t q = absurd (fails-not q)
+    go : (b : Bool) (x : Shortfall) → in-bounds p w k ≡ b → (if b then ok l s else fails x s) ≡ ok l′ s′ → Checked p w k l s l′ s′
+    go true x t q = record { place = same-result q; state = same-state q; from = in-bounds-true p w k t .0; upto = in-bounds-true p w k t .1 }
+    go false x t q = absurd (fails-not q)
 
 deref-comes : {n : ℕ} (v : Value) (s : State) {l : Location} {s′ : State} → Both (value-at v s) (deref-step n) l s′ → Comes-by s l s′ (Deref n v)
 unfolding deref-step

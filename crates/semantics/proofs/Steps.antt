@@ -11,7 +11,7 @@ use lib.ListN.{length, set, length-set}
 use lib.Seq.{getD-set-same, getD-set-other}
 use Rattle.semantics.specs.Words.{Words, word, if_then_else_}
 use Rattle.semantics.specs.Syntax.{Place, Variable, Deref, Field, Value, Number, Sum, Read, Address, Cast, Malloc}
-use Rattle.semantics.specs.Rules.{Datum, unbounded, block-pointer, Access, Location, Event, loaded, stored, allocated, State, noted, with-values, ok, fails, no-room, in-bounds, checked, deref-step, field-step, touchable, contents, read-step, cast-step, with-block, malloc-step, place-at, value-at, with-datum, assign-step, assign}
+use Rattle.semantics.specs.Rules.{Datum, unbounded, block-pointer, Access, Location, Event, loaded, stored, allocated, Shortfall, State, noted, with-values, ok, fails, no-room, in-bounds, checked, deref-step, field-step, touchable, contents, read-step, cast-step, with-block, malloc-step, place-at, value-at, with-datum, assign-step, assign}
 use Rattle.semantics.specs.Safety.{variable, block, Held, Permitted, by-name, by-pointer, Allowed, Sound, absent, held}
 use Rattle.semantics.specs.Log.{Unwritten, Same-word}
 use Rattle.semantics.proofs.Tests.{in-bounds-true, and-both}
@@ -152,12 +152,11 @@ sound-held (held x) h = x
 checked-good : {vars len : ℕ} {s : State} (n : ℕ) (p : Datum) (w k : ℕ) (l : Location) → Inv vars len s
     → (p .base ≤ w → w + k ≤ p .end → Location-ok vars l s) → Good vars len s (Location-ok vars) (checked n p w k l s)
 unfolding checked
-checked-good {vars} {len} {s} n p w k l inv found = go (in-bounds p w k) refl
+checked-good {vars} {len} {s} n p w k l inv found = go (in-bounds p w k) _ refl
   where
-    go : (b : Bool) → in-bounds p w k ≡ b
-        → Good vars len s (Location-ok vars) (if b then ok l s else fails (record { node = n; at = w; words = k; base = p .base; end = p .end }) s)
-    go true e = good-ok inv now (found (in-bounds-true p w k e .0) (in-bounds-true p w k e .1))
-    go false e = good-fails inv now
+    go : (b : Bool) (x : Shortfall) → in-bounds p w k ≡ b → Good vars len s (Location-ok vars) (if b then ok l s else fails x s)
+    go true x e = good-ok inv now (found (in-bounds-true p w k e .0) (in-bounds-true p w k e .1))
+    go false x e = good-fails inv now
 
 deref-good : {vars len : ℕ} (n : ℕ) (p : Datum) (s : State) → Inv vars len s → Datum-ok vars p s → Good vars len s (Location-ok vars) (deref-step n p s)
 unfolding deref-step

@@ -14,3 +14,4 @@ pub mod Examples
 pub mod RefusalExamples
 pub mod CallExamples
 pub mod RunExamples
+pub mod TreeExamples
