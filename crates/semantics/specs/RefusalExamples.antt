@@ -215,6 +215,7 @@ node-types =
     ∷ nodes-give (var 1 ∷ address 0 ∷ []) (refused 8 (kind-at 1))
     ∷ nodes-give (var 3 ∷ address 0 ∷ []) (refused 8 (kind-at 1))
     ∷ nodes-give (var 4 ∷ address 0 ∷ []) (refused 8 (kind-at 1))
+    ∷ gives (types [] (1 ∷ 2 ∷ 3 ∷ 0 ∷ []) (0 ∷ 5 ∷ []) ++ section (var 1 ∷ var 0 ∷ address 1 ∷ []) ++ section (assign 0 2 ∷ [])) passes
     -- obtain, "value: int"
     ∷ nodes-give (var 2 ∷ read 0 ∷ malloc 1 ∷ []) (refused 8 (kind-at 2))
     ∷ nodes-give (num 7 ∷ malloc 0 ∷ malloc 1 ∷ []) (refused 8 (kind-at 2))

@@ -223,6 +223,7 @@ value-runs =
     ∷ computes (Sum (Read x) (Num 1)) 31
     ∷ run (pointer-in-block ++ ((p := Read (Deref (Cast (Read v) int**))) ∷ (x := Read (Deref (Cast (Read v) int*))) ∷ []))
     (ending done 6) (left 5 (bounded 5 5 6) (bounded 5 5 6) none (bounded 5 5 6 ∷ []))
+    ∷ run ((x := Num 1) ∷ m ∷ (at p := Num 8) ∷ []) (ending done 7) (left 1 (bounded 5 5 7) none none (unbounded 8 ∷ none ∷ []))
     ∷ run (pointer-in-block ++ ((p := Cast (Read (Deref (Cast (Read v) int*))) int*) ∷ []))
     (ending done 6) (left 30 (unbounded 5) (bounded 5 5 6) none (bounded 5 5 6 ∷ []))
     -- "Assign: a pointer type stores value, base and end; int stores the value only, and the word's base and end stay"
