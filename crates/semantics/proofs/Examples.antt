@@ -12,7 +12,7 @@ use Rattle.semantics.specs.ExampleTables.{Judgement, judged, Request, an
 use Rattle.semantics.specs.RefusalExamples.{sections, declarations, operands, node-types, commands-and-uses}
 use Rattle.semantics.specs.CallExamples.{arguments, register-lists, unequal-lists}
 use Rattle.semantics.specs.RunExamples.{memory-runs, order-runs, place-runs, value-runs, malloc-runs, touched, touches}
-use Rattle.semantics.specs.TreeExamples.{every-kind, roots, trees, failing, failures}
+use Rattle.semantics.specs.TreeExamples.{every-kind, roots, trees, worked, values, failing, failures, wild, wild-runs}
 use Rattle.semantics.specs.Examples.{verdicts, refusals, runs, refused-lists, register-runs, record-runs}
 
 -- To unfold this is to unfold every definition that a call comes down to.
@@ -117,3 +117,11 @@ trees-grow-so = refl
 pub checks-fail-so : map failing failures ≡ failures
 unfolding computed failing failures
 checks-fail-so = refl
+
+pub values-are-worked-out-so : map worked values ≡ values
+unfolding computed worked values
+values-are-worked-out-so = refl
+
+pub wild-runs-end-so : map wild wild-runs ≡ wild-runs
+unfolding computed wild wild-runs
+wild-runs-end-so = refl

@@ -1,13 +1,15 @@
--- Trees with all that elaboration settles, and the check that ends a run: what the answers of calls don't show.
+-- What the answers of calls don't show: trees with all that elaboration settles, the value of each kind of tree, the check that ends a run, and
+-- steps without a rule.
 use Prim.Native.Nat.{ℕ}
 use mathlib.Core.Bool.{true, false}
 use mathlib.Core.List.{List, [], _∷_, _++_}
+use lib.ListN.{replicate}
 use Rattle.semantics.specs.Words.{Words}
-use Rattle.semantics.specs.Syntax.{Tree, place, value, Variable, Number}
+use Rattle.semantics.specs.Syntax.{Value, Tree, place, value, Variable, Number, NoValue}
 use Rattle.semantics.specs.Syntax as tree
-use Rattle.semantics.specs.Rules.{Shortfall, Outcome, ok, fails, no-room, no-rule}
-use Rattle.semantics.specs.Run.{begin, command, commands-below}
-use Rattle.semantics.specs.ExampleTables.{types, of-type, Term, Var, Deref, Field, Num, Sum, Read, Address, Cast, Size, Malloc, Command, _:=_, routine, no-registers}
+use Rattle.semantics.specs.Rules.{Datum, unbounded, State, Shortfall, Outcome, ok, fails, no-room, no-rule, value-at}
+use Rattle.semantics.specs.Run.{begin, command, Ending, done, stuck, commands-below}
+use Rattle.semantics.specs.ExampleTables.{types, of-type, Term, Var, Deref, Field, Num, Sum, Read, Address, Cast, Size, Malloc, Command, _:=_, routine, bounded, no-registers}
 
 -- Record 0 has one field, record 1 fields of 2 and 3 ints. Variables p, pointer to record 1 (type 2), q, pointer to int (type 3), and the int x.
 abbrev table : List Command → Words
@@ -19,15 +21,16 @@ p = Var 0
 abbrev q : Term
 q = Var 1
 
--- p = (record 1*)malloc(sizeof(record 1)), nodes 0 to 3; q = &(p + 1)->second, nodes 4 to 10; *q = x, nodes 11 to 15; x = (int)q, nodes 16 to 19
+-- p = (record 1*)malloc(sizeof(record 1)), nodes 0 to 3; q = &(p + 1)->second, nodes 4 to 10; *q = x, nodes 11 to 15; x = (int)q, nodes 16 to 19;
+-- q = (int*)7, nodes 20 to 22
 abbrev pub every-kind : Words
 every-kind =
     table
-    ((p := Cast (Malloc (Size 65537)) 2) ∷ (q := Address (Field (Sum (Read p) (Num 1)) 1)) ∷ (Deref (Read q) := Read (Var 2)) ∷ (Var 2 := Cast (Read q) 0) ∷ [])
+    ((p := Cast (Malloc (Size 65537)) 2) ∷ (q := Address (Field (Sum (Read p) (Num 1)) 1)) ∷ (Deref (Read q) := Read (Var 2)) ∷ (Var 2 := Cast (Read q) 0) ∷ (q := Cast (Num 7) 3) ∷ [])
 
 -- Some of its nodes, and their trees.
 abbrev pub roots : List ℕ
-roots = 0 ∷ 3 ∷ 10 ∷ 13 ∷ 15 ∷ 19 ∷ []
+roots = 0 ∷ 3 ∷ 10 ∷ 13 ∷ 15 ∷ 19 ∷ 22 ∷ []
 
 unfoldable pub trees : List Tree
 trees =
@@ -37,6 +40,52 @@ trees =
     ∷ place (tree.Deref 13 (tree.Read 12 true (Variable 11 1)))
     ∷ value (tree.Read 15 false (Variable 14 2))
     ∷ value (tree.Cast 19 false (tree.Read 18 true (Variable 17 1)))
+    ∷ value (tree.Cast 22 false (Number 21 7))
+    ∷ []
+
+-- ---- The value of each kind of tree, in a state of its own: word 1 is 5 with bounds [2, 4), word 2 is 9, U is 4, and memory has 6 words
+
+abbrev small : State
+small = record { values = 0 ∷ 5 ∷ 9 ∷ 0 ∷ 8 ∷ 8 ∷ []; bases = 0 ∷ 2 ∷ 0 ∷ 0 ∷ 8 ∷ 8 ∷ []; ends = 0 ∷ 4 ∷ 0 ∷ 0 ∷ 8 ∷ 8 ∷ []; unused = 4; log = [] }
+
+abbrev datum-of : Outcome Datum → List Datum
+datum-of (ok d s) = d ∷ []
+datum-of (fails x s) = []
+datum-of (no-room s) = []
+datum-of (no-rule s) = []
+
+pub record Worked : Type 0 where
+  pub tree : Value
+  pub datum : List Datum
+
+unfoldable pub worked : Worked → Worked
+worked x = record { tree = x .tree; datum = datum-of (value-at (x .tree) small) }
+
+abbrev works-out : Value → Datum → Worked
+works-out v d = record { tree = v; datum = d ∷ [] }
+
+-- Word 1, a pointer.
+abbrev pointer : Value
+pointer = tree.Read 1 true (Variable 0 0)
+
+unfoldable pub values : List Worked
+values =
+    works-out (Number 3 7) (unbounded 7)
+    ∷ works-out pointer (bounded 5 2 4)
+    ∷ works-out (tree.Read 1 false (Variable 0 0)) (unbounded 5)
+    ∷ works-out (tree.Address 1 (Variable 0 1)) (bounded 2 2 3)
+    ∷ works-out (tree.Sum 3 3 pointer (Number 2 4)) (bounded 17 2 4)
+    ∷ works-out (tree.Sum 4 2 (Number 0 6) pointer) (unbounded 16)
+    ∷ works-out (tree.Cast 2 true pointer) (bounded 5 2 4)
+    ∷ works-out (tree.Cast 2 false pointer) (unbounded 5)
+    ∷ works-out (tree.Malloc 1 (Number 0 2)) (bounded 4 4 6)
+    ∷ works-out (tree.Malloc 1 (Number 0 0)) (unbounded 0)
+    -- a block's words are clear, whatever stood there, and are read through its bounds
+    ∷ works-out (tree.Read 3 true (tree.Deref 2 (tree.Malloc 1 (Number 0 2)))) (unbounded 0)
+    -- checks and no room leave none
+    ∷ record { tree = tree.Read 3 true (tree.Deref 2 pointer); datum = [] }
+    ∷ record { tree = tree.Malloc 1 (Number 0 3); datum = [] }
+    ∷ record { tree = NoValue; datum = [] }
     ∷ []
 
 -- ---- The check that was not passed: "the place and the number of words wanted, and the bounds"
@@ -82,4 +131,37 @@ failures =
     ∷ fails-at ((p := Cast (Malloc (Num 4)) 2) ∷ (q := Address (Field (Read p) 1)) ∷ []) 1 7 6 3 4 8
     -- an exact sum: ((record 1*)4294967295)->second
     ∷ fails-at ((q := Address (Field (Cast (Num 4294967295) 2) 1)) ∷ []) 0 3 4294967297 3 0 0
+    ∷ []
+
+-- ---- "touching a word with no rule is a fourth ending": it ends the run at that command. No run that is begun comes there.
+
+-- Commands run from a memory of 20 words with this first unused word.
+pub record Wild : Type 0 where
+  pub table : Words
+  pub commands : ℕ
+  pub unused : ℕ
+  pub ending : Ending
+
+abbrev from-unused : ℕ → State
+from-unused u = record { values = replicate 20 0; bases = replicate 20 0; ends = replicate 20 0; unused = u; log = [] }
+
+unfoldable pub wild : Wild → Wild
+wild x =
+    record {
+      table = x .table;
+      commands = x .commands;
+      unused = x .unused;
+      ending = commands-below (x .table) (x .commands) (from-unused (x .unused)) .ending;
+    }
+
+unfoldable pub wild-runs : List Wild
+wild-runs =
+    -- x = 1; x = 2, with U past x's word and at it
+    record { table = table ((Var 2 := Num 1) ∷ (Var 2 := Num 2) ∷ []); commands = 2; unused = 4; ending = done }
+    ∷ record { table = table ((Var 2 := Num 1) ∷ (Var 2 := Num 2) ∷ []); commands = 2; unused = 3; ending = stuck 0 }
+    -- the second of three
+    ∷ record { table = table ((p := Read p) ∷ (q := Read p) ∷ (p := Read p) ∷ []); commands = 3; unused = 2; ending = stuck 1 }
+    -- a node of no kind, as a value and as a place
+    ∷ record { table = 0 ∷ 0 ∷ 0 ∷ 1 ∷ 0 ∷ 2 ∷ 1 ∷ 0 ∷ 0 ∷ 11 ∷ 0 ∷ 0 ∷ 1 ∷ 0 ∷ 1 ∷ []; commands = 1; unused = 2; ending = stuck 0 }
+    ∷ record { table = 0 ∷ 0 ∷ 0 ∷ 1 ∷ 0 ∷ 2 ∷ 11 ∷ 0 ∷ 0 ∷ 4 ∷ 0 ∷ 0 ∷ 1 ∷ 0 ∷ 1 ∷ []; commands = 1; unused = 2; ending = stuck 0 }
     ∷ []
