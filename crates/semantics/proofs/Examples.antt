@@ -1,4 +1,5 @@
--- The tables of specs/Examples.antt compute to the answers that document 01 prints, and that requests 1 and 2 ask for.
+-- Each table of examples computes to what it says: those that document 01 prints and that requests 1 and 2 ask for (specs/Examples.antt), and
+-- those that hold each sentence (specs/RefusalExamples.antt, CallExamples.antt, RunExamples.antt).
 use mathlib.Core.Path.{_≡_, refl}
 use mathlib.Core.List.{map}
 use Rattle.semantics.specs.Words.{zeroed, sum-below, any-below, seen-before, least-below, grow}
@@ -8,17 +9,23 @@ use Rattle.semantics.specs.Check.{_or-else_, require, each, section-faul
 use Rattle.semantics.specs.Syntax.{step-of, tree-rule, trees-below, tree-of, place-of, value-of}
 use Rattle.semantics.specs.Rules.{in-bounds, checked, deref-step, field-step, touchable, read-step, malloc-step, place-at, assign-step, assign}
 use Rattle.semantics.specs.Run.{cleared, registers-below, begin, command, commands-below, run, call}
-use Rattle.semantics.specs.ExampleTables.{Judgement, judged, Request, answered, Example, observed}
+use Rattle.semantics.specs.ExampleTables.{judged, answered, Example, observed}
+use Rattle.semantics.specs.Examples.{verdicts, refusals, runs, refused-lists, register-runs, record-runs}
 use Rattle.semantics.specs.RefusalExamples.{sections, declarations, operands, node-types, commands-and-uses}
 use Rattle.semantics.specs.CallExamples.{arguments, register-lists, unequal-lists}
 use Rattle.semantics.specs.RunExamples.{memory-runs, order-runs, place-runs, value-runs, malloc-runs, touched, touches}
 use Rattle.semantics.specs.TreeExamples.{every-kind, roots, trees, worked, values, failing, failures, wild, wild-runs}
-use Rattle.semantics.specs.Examples.{verdicts, refusals, runs, refused-lists, register-runs, record-runs}
 
 -- To unfold this is to unfold every definition that a call comes down to.
 computed : Example → Example
 unfolding observed zeroed sum-below any-below seen-before least-below grow count-place count item-place item is-pointer known-type known-target target points-to-type points-to-record pointed-record entry-below field-total first-field field-type field-count field-offset size-of kind-of node-kind children type-rule types-below node-type _or-else_ require each section-fault words-over record-fault field-sum-fault field-fault pointer-fault variable-fault is-child deeper node-fault command-fault uses use-fault check lengths-fit input-fits input-fault arguments-fault register-place register-start extent-fault names-pointer name-fault room-fault registers-fault call-fault step-of tree-rule trees-below tree-of place-of value-of in-bounds checked deref-step field-step touchable read-step malloc-step place-at assign-step assign cleared registers-below begin command commands-below run call
 computed x = observed x
+
+-- ---- Document 01's own, registers, and steps along records
+
+pub verdicts-are-given : map judged verdicts ≡ verdicts
+unfolding computed judged verdicts
+verdicts-are-given = refl
 
 pub refusals-are-given : map observed refusals ≡ refusals
 unfolding computed refusals
@@ -40,51 +47,43 @@ pub record-runs-end-so : map observed record-runs ≡ record-runs
 unfolding computed record-runs
 record-runs-end-so = refl
 
--- The same for the check alone.
-checked-table : Judgement → Judgement
-unfolding computed judged
-checked-table x = judged x
-
-pub verdicts-are-given : map judged verdicts ≡ verdicts
-unfolding checked-table verdicts
-verdicts-are-given = refl
+-- ---- The check
 
 pub sections-are-judged-so : map judged sections ≡ sections
-unfolding checked-table sections
+unfolding computed judged sections
 sections-are-judged-so = refl
 
 pub declarations-are-judged-so : map judged declarations ≡ declarations
-unfolding checked-table declarations
+unfolding computed judged declarations
 declarations-are-judged-so = refl
 
 pub operands-are-judged-so : map judged operands ≡ operands
-unfolding checked-table operands
+unfolding computed judged operands
 operands-are-judged-so = refl
 
 pub node-types-are-judged-so : map judged node-types ≡ node-types
-unfolding checked-table node-types
+unfolding computed judged node-types
 node-types-are-judged-so = refl
 
 pub commands-and-uses-are-judged-so : map judged commands-and-uses ≡ commands-and-uses
-unfolding checked-table commands-and-uses
+unfolding computed judged commands-and-uses
 commands-and-uses-are-judged-so = refl
 
--- The same for what a call is refused for.
-checked-call : Request → Request
-unfolding computed answered
-checked-call x = answered x
+-- ---- What a call is refused for
 
 pub arguments-are-judged-so : map answered arguments ≡ arguments
-unfolding checked-call arguments
+unfolding computed answered arguments
 arguments-are-judged-so = refl
 
 pub register-lists-are-judged-so : map answered register-lists ≡ register-lists
-unfolding checked-call register-lists
+unfolding computed answered register-lists
 register-lists-are-judged-so = refl
 
 pub unequal-lists-are-refused : map observed unequal-lists ≡ unequal-lists
 unfolding computed unequal-lists
 unequal-lists-are-refused = refl
+
+-- ---- Runs
 
 pub memory-runs-end-so : map observed memory-runs ≡ memory-runs
 unfolding computed memory-runs

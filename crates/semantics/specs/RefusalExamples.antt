@@ -200,6 +200,7 @@ node-types =
     nodes-give (num 7 ∷ deref 0 ∷ []) (refused 8 (kind-at 1))
     ∷ nodes-give (var 1 ∷ read 0 ∷ deref 1 ∷ []) (refused 8 (kind-at 2))
     ∷ nodes-give (var 3 ∷ read 0 ∷ deref 1 ∷ []) (refused 8 (kind-at 2))
+    ∷ nodes-give (var 4 ∷ read 0 ∷ deref 1 ∷ []) (refused 8 (kind-at 2))
     -- field, "value: pointer to a record" and "field of that record": not an int, a pointer to void or to a type, and no field past the last
     ∷ nodes-give (num 7 ∷ field 0 0 ∷ []) (refused 8 (kind-at 1))
     ∷ nodes-give (var 1 ∷ read 0 ∷ field 1 0 ∷ []) (refused 8 (kind-at 2))
@@ -207,6 +208,7 @@ node-types =
     ∷ nodes-give (var 3 ∷ read 0 ∷ field 1 2 ∷ []) (refused 8 (kind-at 2))
     ∷ nodes-give (var 4 ∷ read 0 ∷ field 1 1 ∷ []) (refused 8 (kind-at 2))
     ∷ nodes-give (var 3 ∷ read 0 ∷ field 1 4294967295 ∷ []) (refused 8 (kind-at 2))
+    ∷ nodes-give (num 7 ∷ num 8 ∷ var 3 ∷ read 2 ∷ field 3 1 ∷ []) (refused 9 (kind-at 0))
     -- sum, "value: int" on the right: no pointer, also not one to void
     ∷ nodes-give (num 7 ∷ var 2 ∷ read 1 ∷ sum 0 2 ∷ []) (refused 8 (kind-at 3))
     ∷ nodes-give (num 7 ∷ num 8 ∷ malloc 1 ∷ sum 0 2 ∷ []) (refused 8 (kind-at 3))
@@ -215,6 +217,7 @@ node-types =
     ∷ nodes-give (var 1 ∷ address 0 ∷ []) (refused 8 (kind-at 1))
     ∷ nodes-give (var 3 ∷ address 0 ∷ []) (refused 8 (kind-at 1))
     ∷ nodes-give (var 4 ∷ address 0 ∷ []) (refused 8 (kind-at 1))
+    ∷ gives (types [] (1 ∷ 2 ∷ 3 ∷ []) (0 ∷ []) ++ section (var 0 ∷ address 0 ∷ []) ++ (0 ∷ [])) (refused 8 12)
     ∷ gives (types [] (1 ∷ 2 ∷ 3 ∷ 0 ∷ []) (0 ∷ 5 ∷ []) ++ section (var 1 ∷ var 0 ∷ address 1 ∷ []) ++ section (assign 0 2 ∷ [])) passes
     -- obtain, "value: int"
     ∷ nodes-give (var 2 ∷ read 0 ∷ malloc 1 ∷ []) (refused 8 (kind-at 2))
