@@ -6,7 +6,7 @@ use lib.ListN.{replicate}
 use Rattle.semantics.specs.Words.{Words}
 use Rattle.semantics.specs.Check.{Verdict, passes, refused}
 use Rattle.semantics.specs.Run.{refusal}
-use Rattle.semantics.specs.ExampleTables.{types, section, num, routine, Request, Example, no-registers}
+use Rattle.semantics.specs.ExampleTables.{types, section, num, Var, Num, Malloc, _:=_, routine, Request, Example, no-registers}
 
 -- ---- 10 and 11: memory and inputs
 
@@ -50,6 +50,7 @@ arguments =
     ∷ hands (0 ∷ 1 ∷ 0 ∷ 0 ∷ []) (refused 11 1)
     ∷ hands (5 ∷ 0 ∷ 5 ∷ 4294967295 ∷ []) (refused 11 3)
     ∷ hands (5 ∷ 9 ∷ 5 ∷ 9 ∷ []) (refused 11 1)
+    ∷ asks (types [] [] (0 ∷ 0 ∷ 0 ∷ 0 ∷ 1 ∷ []) ++ routine []) (0 ∷ 0 ∷ 0 ∷ 0 ∷ 9 ∷ []) no-registers 6 (refused 11 4)
     -- the count first
     ∷ hands (5 ∷ 9 ∷ 5 ∷ []) (refused 11 4)
     -- the check before 10, 10 before 11, 11 before 13
@@ -94,6 +95,7 @@ register-lists =
     ∷ registers-give (3 ∷ 3 ∷ 2 ∷ 7 ∷ 7 ∷ 0 ∷ 0 ∷ 3 ∷ 0 ∷ []) 10 (refused 14 7)
     ∷ registers-give (3 ∷ 3 ∷ 2 ∷ 7 ∷ 7 ∷ 0 ∷ 0 ∷ 0 ∷ 0 ∷ []) 10 (refused 14 7)
     ∷ registers-give (1 ∷ 4294967295 ∷ 0 ∷ []) 10 (refused 14 1)
+    ∷ asks (types [] [] (1 ∷ []) ++ routine ((Var 0 := Malloc (Num 1)) ∷ [])) (0 ∷ []) (1 ∷ 1 ∷ 0 ∷ []) 10 (refused 14 1)
     -- the first, the middle, the last doesn't fit, by one word; a register of no words fits where those before it do
     ∷ registers-give (3 ∷ 3 ∷ 2 ∷ 7 ∷ 7 ∷ 0 ∷ 1 ∷ 7 ∷ 2 ∷ 0 ∷ []) 6 (refused 15 2)
     ∷ registers-give (3 ∷ 3 ∷ 2 ∷ 7 ∷ 7 ∷ 0 ∷ 1 ∷ 7 ∷ 2 ∷ 0 ∷ []) 7 (refused 15 6)

@@ -11,10 +11,10 @@ use Rattle.semantics.specs.ExampleTables.{types, of-type, Term, Var, Der
 
 -- ---- The setting: types 0 to 6, four variables, memory of 12 words
 
--- Record 0 has fields of 3, 1 and 2 ints. Record 1 has a field of 4 ints, one of a pointer to int, and one of 2 ints.
+-- Record 0 has fields of 3, 1, 2 and 2 ints. Record 1 has a field of 4 ints, one of a pointer to int, and one of 2 ints.
 abbrev two-records : List (List Words)
 two-records =
-    (of-type 0 3 ∷ of-type 0 1 ∷ of-type 0 2 ∷ [])
+    (of-type 0 3 ∷ of-type 0 1 ∷ of-type 0 2 ∷ of-type 0 2 ∷ [])
     ∷ (of-type 0 4 ∷ of-type 2 1 ∷ of-type 0 2 ∷ [])
     ∷ []
 
@@ -217,7 +217,7 @@ value-runs =
     ∷ computes (Size int) 1
     ∷ computes (Size void*) 1
     ∷ computes (Size record-0*) 1
-    ∷ computes (Size 65536) 6
+    ∷ computes (Size 65536) 8
     ∷ computes (Size 65537) 7
     -- "Read: a pointer type gives value, base and end of the word; int gives the value without bounds"
     ∷ computes (Sum (Read x) (Num 1)) 31
@@ -246,7 +246,7 @@ value-runs =
     ∷ in-record 1 (r := plus r 1) (ending done 6) (left 30 none none (bounded 12 5 6) (clear 1))
     ∷ in-record 1 (r := plus r 4294967295) (ending done 6) (left 30 none none (bounded 4294967294 5 6) (clear 1))
     ∷ in-record 1 (r := plus r 613566756) (ending done 6) (left 30 none none (bounded 1 5 6) (clear 1))
-    ∷ in-record 1 (v := Cast (as-plus record-0* r 2) void*) (ending done 6) (left 30 none (bounded 17 5 6) (bounded 5 5 6) (clear 1))
+    ∷ in-record 1 (v := Cast (as-plus record-0* r 2) void*) (ending done 6) (left 30 none (bounded 21 5 6) (bounded 5 5 6) (clear 1))
     -- "Cast: pointer to pointer keeps everything; from int, or to int, the value is kept without bounds"
     ∷ run (m ∷ (v := Cast (Read p) void*) ∷ (r := Cast (Read v) record-1*) ∷ (p := Cast (Read r) int*) ∷ [])
     (ending done 7) (left 30 (bounded 5 5 7) (bounded 5 5 7) (bounded 5 5 7) (clear 2))
