@@ -12,7 +12,7 @@ use Rattle.semantics.specs.ExampleTables.{types, section, num, Var, Num,
 
 -- Four variables: int, void*, int, int*.
 abbrev four-variables : Words
-four-variables = types [] (0 ∷ []) (0 ∷ 1 ∷ 0 ∷ 2 ∷ []) ++ routine []
+four-variables = types [] (0 ∷ 2 ∷ []) (0 ∷ 1 ∷ 0 ∷ 2 ∷ []) ++ routine []
 
 abbrev lends : ℕ → ℕ → ℕ → Verdict → Request
 lends values bases ends v =

@@ -206,6 +206,14 @@ place-runs =
 abbrev computes : Term → ℕ → Example
 computes t n = run ((x := t) ∷ []) (ending done 5) (left n none none none [])
 
+-- One, three and two fields.
+abbrev three-records : List (List Words)
+three-records =
+    (of-type 0 5 ∷ [])
+    ∷ (of-type 0 1 ∷ of-type 0 2 ∷ of-type 0 4 ∷ [])
+    ∷ (of-type 0 3 ∷ of-type 0 3 ∷ [])
+    ∷ []
+
 -- v = (void*)malloc(1), *(int**)v = (int*)v: the word 5 has bounds
 abbrev pointer-in-block : List Command
 pointer-in-block = (v := Malloc (Num 1)) ∷ (Deref (Cast (Read v) int**) := Cast (Read v) int*) ∷ []
@@ -219,6 +227,8 @@ value-runs =
     ∷ computes (Size record-0*) 1
     ∷ computes (Size 65536) 8
     ∷ computes (Size 65537) 7
+    ∷ ends-so (types three-records [] (0 ∷ 0 ∷ 0 ∷ []) ++ routine ((Var 0 := Size 65536) ∷ (Var 1 := Size 65537) ∷ (Var 2 := Size 65538) ∷ []))
+    (0 ∷ 0 ∷ 0 ∷ []) no-registers 4 (ending done 4) (unbounded 5 ∷ unbounded 7 ∷ unbounded 6 ∷ [])
     -- "Read: a pointer type gives value, base and end of the word; int gives the value without bounds"
     ∷ computes (Sum (Read x) (Num 1)) 31
     ∷ run (pointer-in-block ++ ((p := Read (Deref (Cast (Read v) int**))) ∷ (x := Read (Deref (Cast (Read v) int*))) ∷ []))
