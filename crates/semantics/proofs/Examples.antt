@@ -1,20 +1,20 @@
 -- Each table of examples computes to what it says: those that document 01 prints and that requests 1 and 2 ask for (specs/Examples.antt), and
 -- those that hold each sentence (specs/RefusalExamples.antt, CallExamples.antt, RunExamples.antt).
 use mathlib.Core.Path.{_≡_, refl}
-use mathlib.Core.List.{map}
+use mathlib.Core.List.{[], _∷_, map}
 use Rattle.semantics.specs.Words.{zeroed, sum-below, any-below, seen-before, least-below, grow}
 use Rattle.semantics.specs.Table.{count-place, count, item-place, item, is-pointer, known-type, known-target, target, points-to-type, points-to-record, pointed-record, entry-below, field-total, first-field, field-type, field-count, field-offset, size-of, kind-of, node-kind, children, type-rule, types-below, node-type}
 use Rattle.semantics.specs.Registers.{register-place, register-start}
 use Rattle.semantics.specs.Check.{_or-else_, require, each, section-fault, words-over, record-fault, field-sum-fault, field-fault, pointer-fault, variable-fault, is-child, deeper, node-fault, command-fault, uses, use-fault, check, lengths-fit, input-fits, input-fault, arguments-fault, extent-fault, names-pointer, name-fault, room-fault, registers-fault, call-fault}
 use Rattle.semantics.specs.Syntax.{step-of, tree-rule, trees-below, tree-of, place-of, value-of}
 use Rattle.semantics.specs.Rules.{in-bounds, checked, deref-step, field-step, touchable, read-step, malloc-step, place-at, assign-step, assign}
-use Rattle.semantics.specs.Run.{cleared, registers-below, begin, command, commands-below, run, call}
+use Rattle.semantics.specs.Run.{cleared, with-register, registers-below, begin, command, commands-below, run, call}
 use Rattle.semantics.specs.ExampleTables.{judged, answered, Example, observed}
 use Rattle.semantics.specs.Examples.{verdicts, refusals, runs, refused-lists, register-runs, record-runs}
 use Rattle.semantics.specs.RefusalExamples.{sections, declarations, operands, node-types, commands-and-uses}
 use Rattle.semantics.specs.CallExamples.{arguments, register-lists, unequal-lists}
 use Rattle.semantics.specs.RunExamples.{memory-runs, order-runs, place-runs, value-runs, malloc-runs, touched, touches}
-use Rattle.semantics.specs.TreeExamples.{every-kind, roots, trees, worked, values, failing, failures, wild, wild-runs}
+use Rattle.semantics.specs.TreeExamples.{every-kind, roots, trees, small, worked, values, registered, failing, failures, wild, wild-runs}
 
 -- To unfold this is to unfold every definition that a call comes down to.
 computed : Example → Example
@@ -112,6 +112,10 @@ touches-have-rules-so = refl
 pub trees-grow-so : map (tree-of every-kind) roots ≡ trees
 unfolding computed trees
 trees-grow-so = refl
+
+pub registers-are-set-so : with-register 1 0 [] small ∷ with-register 1 1 (70 ∷ []) small ∷ with-register 1 2 (70 ∷ 80 ∷ []) small ∷ [] ≡ registered
+unfolding computed registered
+registers-are-set-so = refl
 
 pub checks-fail-so : map failing failures ≡ failures
 unfolding computed failing failures

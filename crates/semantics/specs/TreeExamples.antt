@@ -7,7 +7,7 @@ use lib.ListN.{replicate}
 use Rattle.semantics.specs.Words.{Words}
 use Rattle.semantics.specs.Syntax.{Value, Tree, place, value, Variable, Number, NoValue}
 use Rattle.semantics.specs.Syntax as tree
-use Rattle.semantics.specs.Rules.{Datum, unbounded, State, Shortfall, Outcome, ok, fails, no-room, no-rule, value-at}
+use Rattle.semantics.specs.Rules.{Datum, unbounded, allocated, State, Shortfall, Outcome, ok, fails, no-room, no-rule, value-at}
 use Rattle.semantics.specs.Run.{begin, command, Ending, done, stuck, commands-below}
 use Rattle.semantics.specs.ExampleTables.{types, of-type, Term, Var, Deref, Field, Num, Sum, Read, Address, Cast, Size, Malloc, Command, _:=_, routine, bounded, no-registers}
 
@@ -45,7 +45,7 @@ trees =
 
 -- ---- The value of each kind of tree, in a state of its own: word 1 is 5 with bounds [2, 4), word 2 is 9, U is 4, and memory has 6 words
 
-abbrev small : State
+abbrev pub small : State
 small = record { values = 0 ∷ 5 ∷ 9 ∷ 0 ∷ 8 ∷ 8 ∷ []; bases = 0 ∷ 2 ∷ 0 ∷ 0 ∷ 8 ∷ 8 ∷ []; ends = 0 ∷ 4 ∷ 0 ∷ 0 ∷ 8 ∷ 8 ∷ []; unused = 4; log = [] }
 
 abbrev datum-of : Outcome Datum → List Datum
@@ -86,6 +86,15 @@ values =
     ∷ record { tree = tree.Read 3 true (tree.Deref 2 pointer); datum = [] }
     ∷ record { tree = tree.Malloc 1 (Number 0 3); datum = [] }
     ∷ record { tree = NoValue; datum = [] }
+    ∷ []
+
+-- ---- Registers of none, one and two words for variable 1 in that state: the words from U on are dirty there, and only the register's are cleared
+
+unfoldable pub registered : List State
+registered =
+    record { values = 0 ∷ 5 ∷ 0 ∷ 0 ∷ 8 ∷ 8 ∷ []; bases = 0 ∷ 2 ∷ 0 ∷ 0 ∷ 8 ∷ 8 ∷ []; ends = 0 ∷ 4 ∷ 0 ∷ 0 ∷ 8 ∷ 8 ∷ []; unused = 4; log = [] }
+    ∷ record { values = 0 ∷ 5 ∷ 4 ∷ 0 ∷ 70 ∷ 8 ∷ []; bases = 0 ∷ 2 ∷ 4 ∷ 0 ∷ 0 ∷ 8 ∷ []; ends = 0 ∷ 4 ∷ 5 ∷ 0 ∷ 0 ∷ 8 ∷ []; unused = 5; log = allocated 4 1 ∷ [] }
+    ∷ record { values = 0 ∷ 5 ∷ 4 ∷ 0 ∷ 70 ∷ 80 ∷ []; bases = 0 ∷ 2 ∷ 4 ∷ 0 ∷ 0 ∷ 0 ∷ []; ends = 0 ∷ 4 ∷ 6 ∷ 0 ∷ 0 ∷ 0 ∷ []; unused = 6; log = allocated 4 2 ∷ [] }
     ∷ []
 
 -- ---- The check that was not passed: "the place and the number of words wanted, and the bounds"
