@@ -1,7 +1,8 @@
 // The sizes of a table's records and the offsets of their fields, for a run to look up.
 ghost use mathlib.Core.Path.{_≡_};
-ghost use Prim.Native.Nat.{_<_, _^_};
+ghost use Prim.Native.Nat.{_+_, _-_, _≤_, _<_, _^_};
 ghost use lib.ListN.{length};
+ghost use Rattle.semantics.specs.Words.{word};
 ghost use Rattle.semantics.specs.Table.{count, item, record-target, field-total, first-field, field-offset, size-of};
 ghost use Rattle.semantics.proofs.Passed.{Types-passed};
 ghost use Rattle.layout.specs.Layout.{Stands};
@@ -20,13 +21,24 @@ fn words_of(t: &[u32], fields: Section, field: usize) -> u32
     t[at + 2 * field + 1]
 }
 
+// The fields of record r: the number of its first, and how many there are.
+fn fields_of(first: &[u32; 33], r: usize) -> Section
+    requires { ⌜ (r < 32) × (word (now first) r ≤ word (now first) (r + 1)) ⌝ }
+    ensures { λ own. ⌜ (own .at ≡ word (now (first .entry)) r) × (own .count ≡ word (now (first .entry)) (r + 1) - word (now (first .entry)) r) ⌝ }
+{
+    let at = index(first[r]);
+    let count = index(first[r + 1]) - at;
+    Section { at, count }
+}
+
 // The size of record r: its fields' words added up in one number, straight from the table, last field first.
 fn add_up(t: &[u32], fields: Section, first: &[u32; 33], r: usize) -> u32
     requires { ⌜ (Stands (now t) 1 fields) × (Record-in (now t) (now first) r) × (size-of (now t) (record-target r) < 2 ^ 32) ⌝ }
     ensures { λ sum. ⌜ sum ≡ size-of (now (t .entry)) (record-target r) ⌝ }
 {
-    let start = index(first[r]);
-    let total = index(first[r + 1]) - start;
+    let own = fields_of(first, r);
+    let start = own.at;
+    let total = own.count;
     let mut sum = 0;
     let mut left = total;
     while 0 < left {
@@ -42,8 +54,9 @@ fn note_offsets(t: &[u32], fields: Section, first: &[u32; 33], r: usize, offsets
     requires { ⌜ (Stands (now t) 1 fields) × (Record-in (now t) (now first) r) × (size-of (now t) (record-target r) < 2 ^ 32) × (length (now offsets) ≡ 128) ⌝ }
     ensures { λ x. ⌜ now (offsets .exit) ≡ filled (now (offsets .entry)) (first-field (now (t .entry)) r) (field-total (now (t .entry)) r) (field-offset (now (t .entry)) r) ⌝ }
 {
-    let start = index(first[r]);
-    let total = index(first[r + 1]) - start;
+    let own = fields_of(first, r);
+    let start = own.at;
+    let total = own.count;
     let mut offset = 0;
     for f in 0..total {
         let field = start + f;

@@ -20,21 +20,22 @@ abbrev μ-loop : tie.MeasureT-loop
 
 loop-holds : tie.Need-loop-holds Inv-loop μ-loop
 loop-holds c =
-    let h = c .before .before .before .before .before .pre .1 in
-    let t = now (c .before .before .before .before .before .args .t) in
-    let r = c .before .before .before .before .before .args .r in
-    let total : c .index2 .result - c .before .before .index .result ≡ field-total t r = omega (arith, h .start, h .next) in
-    (omega arith, omega (arith, h .start), total, rw total (omega (arith, offset-last t r)))
+    let h = c .before .before .pre .1 in
+    let t = now (c .before .before .args .t) in
+    let r = c .before .before .args .r in
+    let own = c .fields-of .ensures in
+    let total : c .fields-of .result .count ≡ field-total t r = omega (arith, own, h .start, h .next) in
+    (omega arith, omega (arith, own, h .start), total, rw total (omega (arith, offset-last t r)))
 
 words-of-requires : tie.Need-words-of-requires Inv-loop μ-loop
-words-of-requires c κs = let p = c .before .before .before .before .before .before .before .pre in let h = p .1 in (p .0, omega arith)
+words-of-requires c κs = let p = c .before .before .before .before .pre in let h = p .1 in (p .0, omega arith)
 
 -- The offsets of field `left` and of the one before it, whose words are added.
-offsets : (c : tie.After-words-of Inv-loop μ-loop) → field-offset (now (c .before .before .before .before .before .before .before .before .args .t)) (c .before .before .before .before .before .before .before .before .args .r) (c .before .before .loop .left) ≡ field-offset (now (c .before .before .before .before .before .before .before .before .args .t)) (c .before .before .before .before .before .before .before .before .args .r) (c .before .before .loop .left - 1) + c .words-of .result
+offsets : (c : tie.After-words-of Inv-loop μ-loop) → field-offset (now (c .before .before .before .before .before .args .t)) (c .before .before .before .before .before .args .r) (c .before .before .loop .left) ≡ field-offset (now (c .before .before .before .before .before .args .t)) (c .before .before .before .before .before .args .r) (c .before .before .loop .left - 1) + c .words-of .result
 offsets c = next-offset _ _ (c .before .before .loop .left - 1) (c .before .before .loop .left) _ _ (omega arith) (c .before .before .loop .inv .1) (c .words-of .ensures)
 
 add-sum : tie.Need-add-sum Inv-loop μ-loop
-add-sum c = omega (arith, c .before .before .before .before .before .before .before .before .pre .2, offsets c)
+add-sum c = omega (arith, c .before .before .before .before .before .pre .2, offsets c)
 
 loop-again : tie.Need-loop-again Inv-loop μ-loop
 loop-again c = let a = c .before .before .loop in (omega arith, a .inv .1, a .inv .2, omega (arith, offsets c, a .inv .3))
@@ -42,7 +43,7 @@ loop-again c = let a = c .before .before .loop in (omega arith, a .inv .1, a .in
 returns : tie.Need-returns Inv-loop μ-loop
 returns c =
     let none : c .before .loop .left ≡ 0 = omega arith in
-    omega (arith, rw none at (c .before .loop .inv .3), offset-none (now (c .before .before .before .before .before .before .before .args .t)) (c .before .before .before .before .before .before .before .args .r))
+    omega (arith, rw none at (c .before .loop .inv .3), offset-none (now (c .before .before .before .before .args .t)) (c .before .before .before .before .args .r))
 
 pub add-up-spec : {M : Type 1} → statement M
 add-up-spec =
@@ -50,20 +51,13 @@ add-up-spec =
     (tie.spec
     Inv-loop
     μ-loop
-    (λ c. let h = c .before .pre .1 in omega arith)
-    (λ c. let h = c .before .pre .1 in omega arith)
-    (λ c κs. search needs)
-    (λ c. let h = c .before .before .before .pre .1 in omega arith)
-    (λ c. let h = c .before .before .before .pre .1 in omega arith)
-    (λ c. let h = c .before .before .before .pre .1 in omega arith)
-    (λ c κs. search needs)
-    (λ c. let h = c .before .before .before .before .before .pre .1 in omega arith)
+    (λ c κs. let h = c .before .pre .1 in (h .few, omega (arith, h .start, h .next)))  -- fields-of-requires
     loop-holds
-    (λ c. omega arith)
-    (λ c. let s = c .before .before .before .before .before .before .before .pre .0 in let h = c .before .before .before .before .before .before .before .pre .1 in omega arith)
+    (λ c. omega arith)  -- sub-f
+    (λ c. let s = c .before .before .before .before .pre .0 in let h = c .before .before .before .before .pre .1 in omega arith)  -- add-words-of
     words-of-requires
     add-sum
-    (λ c. omega arith)
-    (λ c. omega arith)
+    (λ c. omega arith)  -- sub-left
+    (λ c. omega arith)  -- loop-less
     loop-again
     returns)

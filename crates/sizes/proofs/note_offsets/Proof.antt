@@ -22,20 +22,21 @@ abbrev μ-loop : tie.MeasureT-loop
 
 loop-holds : tie.Need-loop-holds Inv-loop μ-loop
 loop-holds c =
-    let h = c .before .before .before .before .before .pre .1 in
-    let t = now (c .before .before .before .before .before .args .t) in
-    let r = c .before .before .before .before .before .args .r in
-    (omega arith, omega (arith, h .start), omega (arith, h .start, h .next), sym (offset-none t r), sym (filled-none _ _ _))
+    let h = c .before .before .pre .1 in
+    let t = now (c .before .before .args .t) in
+    let r = c .before .before .args .r in
+    let own = c .fields-of .ensures in
+    (omega arith, omega (arith, own, h .start), omega (arith, own, h .start, h .next), sym (offset-none t r), sym (filled-none _ _ _))
 
 words-of-requires : tie.Need-words-of-requires Inv-loop μ-loop
-words-of-requires c κs = let p = c .before .before .before .before .before .before .before .pre in let h = p .1 in (p .0, omega arith)
+words-of-requires c κs = let p = c .before .before .before .before .pre in let h = p .1 in (p .0, omega arith)
 
 -- The offset of the field after f.
-next : (c : tie.After-words-of Inv-loop μ-loop) → field-offset (now (c .before .before .before .before .before .before .before .before .args .t)) (c .before .before .before .before .before .before .before .before .args .r) (c .before .before .loop .f + 1) ≡ field-offset (now (c .before .before .before .before .before .before .before .before .args .t)) (c .before .before .before .before .before .before .before .before .args .r) (c .before .before .loop .f) + c .words-of .result
+next : (c : tie.After-words-of Inv-loop μ-loop) → field-offset (now (c .before .before .before .before .before .args .t)) (c .before .before .before .before .before .args .r) (c .before .before .loop .f + 1) ≡ field-offset (now (c .before .before .before .before .before .args .t)) (c .before .before .before .before .before .args .r) (c .before .before .loop .f) + c .words-of .result
 next c = next-offset _ _ (c .before .before .loop .f) (c .before .before .loop .f + 1) _ _ (omega arith) (c .before .before .loop .inv .1) (c .words-of .ensures)
 
 add-next : tie.Need-add-next Inv-loop μ-loop
-add-next c = omega (arith, c .before .before .before .before .before .before .before .before .pre .2, next c, offset-most (now (c .before .before .before .before .before .before .before .before .args .t)) (c .before .before .before .before .before .before .before .before .args .r) (c .before .before .loop .f + 1) (omega arith))
+add-next c = omega (arith, c .before .before .before .before .before .pre .2, next c, offset-most (now (c .before .before .before .before .before .args .t)) (c .before .before .before .before .before .args .r) (c .before .before .loop .f + 1) (omega arith))
 
 loop-again : tie.Need-loop-again Inv-loop μ-loop
 loop-again c =
@@ -44,7 +45,7 @@ loop-again c =
 
 returns : tie.Need-returns Inv-loop μ-loop
 returns c =
-    let all : c .before .loop .f ≡ field-total (now (c .before .before .before .before .before .before .before .args .t)) (c .before .before .before .before .before .before .before .args .r) = omega arith in
+    let all : c .before .loop .f ≡ field-total (now (c .before .before .before .before .args .t)) (c .before .before .before .before .args .r) = omega arith in
     rw all at (c .before .loop .inv .4)
 
 pub note-offsets-spec : {M : Type 1} → statement M
@@ -53,21 +54,14 @@ note-offsets-spec =
     (tie.spec
     Inv-loop
     μ-loop
-    (λ c. let h = c .before .pre .1 in omega arith)
-    (λ c. let h = c .before .pre .1 in omega arith)
-    (λ c κs. search needs)
-    (λ c. let h = c .before .before .before .pre .1 in omega arith)
-    (λ c. let h = c .before .before .before .pre .1 in omega arith)
-    (λ c. let h = c .before .before .before .pre .1 in omega arith)
-    (λ c κs. search needs)
-    (λ c. let h = c .before .before .before .before .before .pre .1 in omega arith)
+    (λ c κs. let h = c .before .pre .1 in (h .few, omega (arith, h .start, h .next)))  -- fields-of-requires
     loop-holds
-    (λ c. let s = c .before .before .before .before .before .before .before .pre .0 in let h = c .before .before .before .before .before .before .before .pre .1 in omega arith)
+    (λ c. let s = c .before .before .before .before .pre .0 in let h = c .before .before .before .before .pre .1 in omega arith)  -- add-field
     words-of-requires
     add-next
-    (λ c. let s = c .before .before .before .before .before .before .before .before .pre .0 in let h = c .before .before .before .before .before .before .before .before .pre .1 in omega arith)
-    (λ c. let s = c .before .before .before .before .before .before .before .before .pre .0 in let h = c .before .before .before .before .before .before .before .before .pre .1 in let a = c .before .before .loop in omega (arith, c .before .before .before .before .before .before .before .before .pre .3, ap length (a .inv .4), filled-length (now (c .before .before .before .before .before .before .before .before .args .offsets)) (first-field (now (c .before .before .before .before .before .before .before .before .args .t)) (c .before .before .before .before .before .before .before .before .args .r)) (field-offset (now (c .before .before .before .before .before .before .before .before .args .t)) (c .before .before .before .before .before .before .before .before .args .r)) (a .f)))
-    (λ c. omega arith)
-    (λ c. omega arith)
+    (λ c. let s = c .before .before .before .before .before .pre .0 in let h = c .before .before .before .before .before .pre .1 in omega arith)  -- mul-offsets
+    (λ c. let d = c .before .before .before .before .before in let s = d .pre .0 in let h = d .pre .1 in let a = c .before .before .loop in omega (arith, d .pre .3, ap length (a .inv .4), filled-length (now (d .args .offsets)) (first-field (now (d .args .t)) (d .args .r)) (field-offset (now (d .args .t)) (d .args .r)) (a .f)))  -- element-write-offsets
+    (λ c. omega arith)  -- add-f
+    (λ c. omega arith)  -- loop-less
     loop-again
     returns)
