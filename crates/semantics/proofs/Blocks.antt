@@ -34,6 +34,16 @@ stored-allocated q = let z : _≡_ {A = ℕ} 0 1 = cc in omega arith
 loaded-allocated : {w v n : ℕ} {a : Access} → loaded w a ≡ allocated v n → ⊥
 loaded-allocated q = let z : _≡_ {A = ℕ} 0 1 = cc in omega arith
 
+-- The event is no block.
+abbrev pub No-block : Event → Type 0
+No-block e = (a n : ℕ) → e ≡ allocated a n → ⊥
+
+pub loaded-no-block : (w : ℕ) (a : Access) → No-block (loaded w a)
+loaded-no-block w a s n q = loaded-allocated q
+
+pub stored-no-block : (w : ℕ) (a : Access) → No-block (stored w a)
+stored-no-block w a s n q = stored-allocated q
+
 -- ---- what is allowed, event by event
 
 module _ {vars : ℕ} where
@@ -81,21 +91,18 @@ module _ {vars : ℕ} where
 -- The blocks of a log lie one after the other above the variables, and the newest ends at U.
 pub data Stacked (vars : ℕ) : List Event → ℕ → Type 0 where
   none : Stacked vars [] (1 + vars)
-  load : {w : ℕ} {a : Access} {log : List Event} {u : ℕ} → Stacked vars log u → Stacked vars (loaded w a ∷ log) u
-  store : {w : ℕ} {a : Access} {log : List Event} {u : ℕ} → Stacked vars log u → Stacked vars (stored w a ∷ log) u
+  beside : {e : Event} {log : List Event} {u : ℕ} → No-block e → Stacked vars log u → Stacked vars (e ∷ log) u
   alloc : {n : ℕ} {log : List Event} {u : ℕ} → 0 < n → Stacked vars log u → Stacked vars (allocated u n ∷ log) (u + n)
 
 stacked-low : {vars u : ℕ} {log : List Event} → Stacked vars log u → vars < u
 stacked-low none = omega arith
-stacked-low (load st) = stacked-low st
-stacked-low (store st) = stacked-low st
+stacked-low (beside apart st) = stacked-low st
 stacked-low (alloc some st) = omega (arith, stacked-low st)
 
 -- Each has a word, and lies above the variables and below U.
 pub stacked-inside : {vars u : ℕ} {log : List Event} → Stacked vars log u → (a n : ℕ) → List·Memᴰ (allocated a n) log → (0 < n) × (vars < a) × (a + n ≤ u)
 stacked-inside none a n h = absurd (List·Memᴰ·not-nil h)
-stacked-inside (load st) a n h = ⊎-elim (λ q. absurd (loaded-allocated (sym q))) (λ m. stacked-inside st a n m) (List·Memᴰ·cases-cons h)
-stacked-inside (store st) a n h = ⊎-elim (λ q. absurd (stored-allocated (sym q))) (λ m. stacked-inside st a n m) (List·Memᴰ·cases-cons h)
+stacked-inside (beside apart st) a n h = ⊎-elim (λ q. absurd (apart a n (sym q))) (λ m. stacked-inside st a n m) (List·Memᴰ·cases-cons h)
 stacked-inside {vars} (alloc {n = k} {u = u} some st) a n h = ⊎-elim new (λ m. omega (arith, stacked-inside st a n m)) (List·Memᴰ·cases-cons h)
   where
     new : allocated a n ≡ allocated u k → (0 < n) × (vars < a) × (a + n ≤ u + k)
@@ -107,10 +114,8 @@ stacked-inside {vars} (alloc {n = k} {u = u} some st) a n h = ⊎-elim new (λ m
 -- The blocks before a block lie below it.
 stacked-before : {vars u : ℕ} {log : List Event} → Stacked vars log u → (later : List Event) (a n : ℕ) (earlier : List Event) → log ≡ later ++ allocated a n ∷ earlier → Stacked vars earlier a
 stacked-before none later a n earlier q = absurd (nil-no-split later (allocated a n) earlier q)
-stacked-before {vars} (load {w = w} {a = x} {log = log} st) later a n earlier q =
-    ⊎-elim (λ p. absurd (loaded-allocated (p .0))) (λ d. stacked-before st (d .later) a n earlier (d .is)) (split (loaded w x) log later (allocated a n) earlier q)
-stacked-before {vars} (store {w = w} {a = x} {log = log} st) later a n earlier q =
-    ⊎-elim (λ p. absurd (stored-allocated (p .0))) (λ d. stacked-before st (d .later) a n earlier (d .is)) (split (stored w x) log later (allocated a n) earlier q)
+stacked-before (beside {e = e} {log = log} apart st) later a n earlier q =
+    ⊎-elim (λ p. absurd (apart a n (p .0))) (λ d. stacked-before st (d .later) a n earlier (d .is)) (split e log later (allocated a n) earlier q)
 stacked-before {vars} (alloc {n = k} {log = log} {u = u} some st) later a n earlier q =
     ⊎-elim here (λ d. stacked-before st (d .later) a n earlier (d .is)) (split (allocated u k) log later (allocated a n) earlier q)
   where
@@ -132,10 +137,8 @@ module _ {vars u : ℕ} {log : List Event} (st : Stacked vars log u) where
 two-blocks : {vars u : ℕ} {log : List Event} → Stacked vars log u → (a n b k w : ℕ) → List·Memᴰ (allocated a n) log → List·Memᴰ (allocated b k) log
     → a ≤ w → w < a + n → b ≤ w → w < b + k → (a ≡ b) × (n ≡ k)
 two-blocks none a n b k w h g la lb ma mb = absurd (List·Memᴰ·not-nil h)
-two-blocks (load st) a n b k w h g la lb ma mb =
-    ⊎-elim (λ q. absurd (loaded-allocated (sym q))) (λ h′. ⊎-elim (λ q. absurd (loaded-allocated (sym q))) (λ g′. two-blocks st a n b k w h′ g′ la lb ma mb) (List·Memᴰ·cases-cons g)) (List·Memᴰ·cases-cons h)
-two-blocks (store st) a n b k w h g la lb ma mb =
-    ⊎-elim (λ q. absurd (stored-allocated (sym q))) (λ h′. ⊎-elim (λ q. absurd (stored-allocated (sym q))) (λ g′. two-blocks st a n b k w h′ g′ la lb ma mb) (List·Memᴰ·cases-cons g)) (List·Memᴰ·cases-cons h)
+two-blocks (beside apart st) a n b k w h g la lb ma mb =
+    ⊎-elim (λ q. absurd (apart a n (sym q))) (λ h′. ⊎-elim (λ q. absurd (apart b k (sym q))) (λ g′. two-blocks st a n b k w h′ g′ la lb ma mb) (List·Memᴰ·cases-cons g)) (List·Memᴰ·cases-cons h)
 two-blocks (alloc {n = m} {log = log} {u = u} some st) a n b k w h g la lb ma mb =
     go (List·Memᴰ·cases-cons h) (List·Memᴰ·cases-cons g) (λ h′ g′. two-blocks st a n b k w h′ g′ la lb ma mb)
   where

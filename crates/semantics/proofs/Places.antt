@@ -10,8 +10,8 @@ use lib.Dec.{leb, eqb}
 use lib.ListN.{length}
 use Rattle.semantics.specs.Words.{if_then_else_}
 use Rattle.semantics.specs.Syntax.{Place, Variable, Deref, Field, NoPlace, Value, Number, Sum, Read, Address, Cast, Malloc, NoValue}
-use Rattle.semantics.specs.Rules.{Datum, unbounded, block-pointer, Location, Event, loaded, stored, State, noted, Shortfall, Outcome, ok, fails, no-room, no-rule, bind, in-bounds, checked, deref-step, field-step, touchable, contents, read-step, cast-step, with-block, malloc-step, place-at, value-at, with-datum, assign-step, assign}
-use Rattle.semantics.specs.Log.{Comes-by, variable-place, deref-place, field-place, Word-read, pointer-read, int-read, Obtained, no-words, new-block, Gives, number-value, sum-value, read-value, address-value, cast-value, malloc-value, Word-stored, pointer-stored, int-stored, Assigns, Clear-word, Same-word}
+use Rattle.semantics.specs.Rules.{Datum, unbounded, block-pointer, Location, Event, stored, State, noted, Shortfall, Outcome, ok, fails, no-room, no-rule, bind, in-bounds, checked, deref-step, field-step, touchable, contents, read-step, cast-step, with-block, malloc-step, place-at, value-at, with-datum, assign-step, assign}
+use Rattle.semantics.specs.Log.{Comes-by, variable-place, deref-place, field-place, Word-read, pointer-read, int-read, Allocates, no-words, new-block, Gives, number-value, sum-value, read-value, address-value, cast-value, malloc-value, Word-stored, pointer-stored, int-stored, Assigns, Clear-word, Same-word}
 use Rattle.semantics.proofs.Tests.{in-bounds-true}
 use Rattle.semantics.proofs.Lists.{zeroed-inside, zeroed-outside}
 
@@ -120,13 +120,13 @@ others-kept : (n : ℕ) (s : State) (w : ℕ) → (w < s .unused) ⊎ (s .unused
 others-kept n s w out =
     record { value = sym (zeroed-outside (s .values) (s .unused) n w out); base = sym (zeroed-outside (s .bases) (s .unused) n w out); end = sym (zeroed-outside (s .ends) (s .unused) n w out) }
 
-obtained : (x : Datum) (s : State) {d : Datum} {s′ : State} → malloc-step x s ≡ ok d s′ → Obtained (x .value) s d s′
+malloc-allocates : (x : Datum) (s : State) {d : Datum} {s′ : State} → malloc-step x s ≡ ok d s′ → Allocates (x .value) s d s′
 unfolding malloc-step
-obtained x s {d} {s′} e = go (eqb (x .value) 0) refl (leb (s .unused + x .value) (length (s .values))) e
+malloc-allocates x s {d} {s′} e = go (eqb (x .value) 0) refl (leb (s .unused + x .value) (length (s .values))) e
   where
     go : (none : Bool) → eqb (x .value) 0 ≡ none → (fits : Bool)
         → (if none then ok (unbounded 0) s else if fits then ok (block-pointer (s .unused) (x .value)) (with-block (x .value) s) else no-room s) ≡ ok d s′
-        → Obtained (x .value) s d s′
+        → Allocates (x .value) s d s′
     go true z fits q = no-words (eqb-true (x .value) 0 z) (sym (same-result q)) (sym (same-state q))
     go false z true q =
         rw (← (same-result q), ← (same-state q)) (new-block (omega (arith, eqb-false (x .value) 0 z)) refl refl refl (new-words-clear (x .value) s) (others-kept (x .value) s))
@@ -149,7 +149,7 @@ values-have-their-events (Cast n keeps v) s d s′ e =
     cast-value (b .a) (in-state (b .first) (cast-state keeps (b .a) (b .s₁) (b .second)))
 values-have-their-events (Malloc n v) s d s′ e =
     let b = both (value-at v s) malloc-step e in
-    malloc-value (b .a) (b .s₁) (b .first) (obtained (b .a) (b .s₁) (b .second))
+    malloc-value (b .a) (b .s₁) (b .first) (malloc-allocates (b .a) (b .s₁) (b .second))
 values-have-their-events NoValue s d s′ e = absurd (no-rule-not e)
 
 -- ---- a command

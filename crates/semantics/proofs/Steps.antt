@@ -16,7 +16,7 @@ use Rattle.semantics.specs.Safety.{variable, block, Held, Permitted, by-
 use Rattle.semantics.specs.Log.{Unwritten, Same-word}
 use Rattle.semantics.proofs.Tests.{in-bounds-true, and-both}
 use Rattle.semantics.proofs.Lists.{zeroed-clear}
-use Rattle.semantics.proofs.Blocks.{Stacked, load, store, alloc, load-allowed, store-allowed, alloc-allowed}
+use Rattle.semantics.proofs.Blocks.{No-block, loaded-no-block, stored-no-block, beside, alloc, load-allowed, store-allowed, alloc-allowed}
 use Rattle.semantics.proofs.Places.{log-kept}
 use Rattle.semantics.proofs.Invariant.{Inv, Within, Later, now, sound-later, permitted-used, Datum-ok, Location-ok, location-later, Good, good-ok, good-fails, good-no-room, bind-good}
 
@@ -34,15 +34,15 @@ tail e x h = List·Memᴰ·tail h
 noted-later : {s : State} (e : Event) → Later s (noted e s)
 noted-later e = record { more = tail e; kept = λ w h. record { value = refl; base = refl; end = refl } }
 
-no-block : {vars len : ℕ} {s : State} (e : Event) → Inv vars len s → Stacked vars (e ∷ s .log) (s .unused) → Allowed vars (e ∷ s .log) → Inv vars len (noted e s)
-no-block e inv stacked allowed =
+no-block : {vars len : ℕ} {s : State} (e : Event) → No-block e → Inv vars len s → Allowed vars (e ∷ s .log) → Inv vars len (noted e s)
+no-block e apart inv allowed =
     record {
       values-length = inv .values-length;
       bases-length = inv .bases-length;
       ends-length = inv .ends-length;
       low = inv .low;
       high = inv .high;
-      blocks = stacked;
+      blocks = beside apart (inv .blocks);
       sound = λ w. sound-later (tail e) (inv .sound w);
       allowed = allowed;
       clear = inv .clear;
@@ -185,7 +185,7 @@ read-good : {vars len : ℕ} (pointer : Bool) (l : Location) (s : State) → Inv
 unfolding read-step
 read-good {vars} {len} pointer l s inv good =
     rw (touchable-true inv (good .permitted))
-    (good-ok (no-block (loaded (l .at) (l .access)) inv (load (inv .blocks)) (load-allowed (good .permitted) (inv .allowed))) (noted-later (loaded (l .at) (l .access))) (kept pointer))
+    (good-ok (no-block (loaded (l .at) (l .access)) (loaded-no-block (l .at) (l .access)) inv (load-allowed (good .permitted) (inv .allowed))) (noted-later (loaded (l .at) (l .access))) (kept pointer))
   where
     kept : (b : Bool) → Datum-ok vars (contents b s (l .at)) (noted (loaded (l .at) (l .access)) s)
     kept true = record { sound = sound-later (tail (loaded (l .at) (l .access))) (inv .sound (l .at)) }
@@ -269,7 +269,7 @@ assign-step-good {vars} pointer l x s inv place value =
     let e : with-datum pointer (l .at) x s .log ≡ s .log = log-kept pointer (l .at) x s in
     rw (touchable-true inv (place .permitted))
     (good-ok
-    (no-block (stored (l .at) (l .access)) (datum-inv pointer (l .at) x (used .1) inv value) (store (datum-inv pointer (l .at) x (used .1) inv value .blocks))
+    (no-block (stored (l .at) (l .access)) (stored-no-block (l .at) (l .access)) (datum-inv pointer (l .at) x (used .1) inv value)
     (rw e (store-allowed (place .permitted) (inv .allowed))))
     (stored-later pointer l x)
     (record {}))

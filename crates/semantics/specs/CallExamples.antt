@@ -110,8 +110,8 @@ register-lists =
 -- ---- Lists of different lengths, and "writes nowhere"
 
 -- A call of the table without entries over these lists is refused with 10, and the lists stay.
-abbrev refused-lent : Words → Words → Words → Example
-refused-lent values bases ends =
+abbrev refused-over : Words → Words → Words → Example
+refused-over values bases ends =
     record {
       table = replicate 6 0;
       inputs = [];
@@ -124,7 +124,7 @@ refused-lent values bases ends =
 
 unfoldable pub unequal-lists : List Example
 unequal-lists =
-    refused-lent (1 ∷ 2 ∷ []) (3 ∷ 4 ∷ []) (5 ∷ [])
-    ∷ refused-lent (1 ∷ 2 ∷ []) (3 ∷ []) (5 ∷ 6 ∷ [])
-    ∷ refused-lent (1 ∷ []) (3 ∷ 4 ∷ []) (5 ∷ 6 ∷ [])
+    refused-over (1 ∷ 2 ∷ []) (3 ∷ 4 ∷ []) (5 ∷ [])
+    ∷ refused-over (1 ∷ 2 ∷ []) (3 ∷ []) (5 ∷ 6 ∷ [])
+    ∷ refused-over (1 ∷ []) (3 ∷ 4 ∷ []) (5 ∷ 6 ∷ [])
     ∷ []

@@ -1,5 +1,5 @@
 -- How the examples are written: tables by their sections, routines node by node or as trees, and what is held to the definitions.
-use Prim.Native.Nat.{ℕ, _+_, _-_, _*_, _/_}
+use Prim.Native.Nat.{ℕ, _+_, _-_}
 use mathlib.Core.List.{List, [], _∷_, _++_, map}
 use lib.ListN.{length, replicate}
 use Rattle.semantics.specs.Words.{Words}

@@ -98,11 +98,11 @@ pub record Clear-word (w : ℕ) (s : State) : Type 0 where
 
 -- "Obtain n: for n = 0, value 0 without bounds. Else .. value U, bounds [U, U + n), and U rises by n. The new words are clear." All other words
 -- are as they were, and the block is one event.
-pub data Obtained (n : ℕ) (s : State) (d : Datum) (s′ : State) : Type 0 where
-  no-words : n ≡ 0 → d ≡ unbounded 0 → s′ ≡ s → Obtained n s d s′
+pub data Allocates (n : ℕ) (s : State) (d : Datum) (s′ : State) : Type 0 where
+  no-words : n ≡ 0 → d ≡ unbounded 0 → s′ ≡ s → Allocates n s d s′
   new-block : 1 ≤ n → d ≡ block-pointer (s .unused) n → s′ .unused ≡ s .unused + n → s′ .log ≡ allocated (s .unused) n ∷ s .log
       → ((w : ℕ) → s .unused ≤ w → w < s .unused + n → Clear-word w s′) → ((w : ℕ) → (w < s .unused) ⊎ (s .unused + n ≤ w) → Same-word w s s′)
-      → Obtained n s d s′
+      → Allocates n s d s′
 
 -- How a tree comes by its value d. "The routine reads a word at a read": that is one event, with the place's access; a block is one too; and no
 -- other tree has an event of its own.
@@ -113,7 +113,7 @@ pub data Gives (s : State) (d : Datum) (s′ : State) : Value → Type 0 where
       → Word-read s₁ (l .at) d pointer → Noted (loaded (l .at) (l .access)) s₁ s′ → Gives s d s′ (Read n pointer p)
   address-value : {n : ℕ} {p : Place} (l : Location) → place-at p s ≡ ok l s′ → Gives s d s′ (Address n p)
   cast-value : {n : ℕ} {keeps : Bool} {v : Value} (x : Datum) → value-at v s ≡ ok x s′ → Gives s d s′ (Cast n keeps v)
-  malloc-value : {n : ℕ} {v : Value} (x : Datum) (s₁ : State) → value-at v s ≡ ok x s₁ → Obtained (x .value) s₁ d s′ → Gives s d s′ (Malloc n v)
+  malloc-value : {n : ℕ} {v : Value} (x : Datum) (s₁ : State) → value-at v s ≡ ok x s₁ → Allocates (x .value) s₁ d s′ → Gives s d s′ (Malloc n v)
 
 -- "Assign: a pointer type stores value, base and end; int stores the value only, and the word's base and end stay."
 pub data Word-stored (s : State) (w : ℕ) (x : Datum) (s′ : State) : Bool → Type 0 where

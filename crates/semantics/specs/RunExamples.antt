@@ -70,8 +70,8 @@ abbrev clear : ℕ → List Datum
 clear n = replicate n none
 
 -- (ty)malloc(n), *t, (ty)t + k
-abbrev obtained : ℕ → ℕ → Term
-obtained ty n = Cast (Malloc (Num n)) ty
+abbrev malloc-as : ℕ → ℕ → Term
+malloc-as ty n = Cast (Malloc (Num n)) ty
 
 abbrev at : Term → Term
 at t = Deref (Read t)
@@ -84,7 +84,7 @@ as-plus ty t k = Sum (Cast (Read t) ty) (Num k)
 
 -- p = (int*)malloc(2), words 5 and 6
 abbrev m : Command
-m = p := obtained int* 2
+m = p := malloc-as int* 2
 
 -- ---- "Memory"
 
@@ -112,18 +112,18 @@ memory-runs =
 unfoldable pub order-runs : List Example
 order-runs =
     -- "a command's place before its value": whose block is the first, and which of two failures ends the run
-    run ((Deref (obtained int* 1) := obtained int 2) ∷ [])
+    run ((Deref (malloc-as int* 1) := malloc-as int 2) ∷ [])
     (ending done 8) (left 30 none none none (unbounded 6 ∷ none ∷ none ∷ []))
-    ∷ run ((at p := obtained int 9) ∷ [])
+    ∷ run ((at p := malloc-as int 9) ∷ [])
     (ending (abort 0) 5) (left 30 none none none [])
-    ∷ run ((Deref (obtained int* 9) := Read (at p)) ∷ [])
+    ∷ run ((Deref (malloc-as int* 9) := Read (at p)) ∷ [])
     (ending (out-of-memory 0) 5) (left 30 none none none [])
     -- "Child a goes before child b"
-    ∷ run ((p := Sum (obtained int* 2) (obtained int 1)) ∷ [])
+    ∷ run ((p := Sum (malloc-as int* 2) (malloc-as int 1)) ∷ [])
     (ending done 8) (left 30 (bounded 12 5 7) none none (clear 3))
-    ∷ run ((x := Sum (obtained int 9) (Read (at p))) ∷ [])
+    ∷ run ((x := Sum (malloc-as int 9) (Read (at p))) ∷ [])
     (ending (out-of-memory 0) 5) (left 30 none none none [])
-    ∷ run ((x := Sum (Read (at p)) (obtained int 9)) ∷ [])
+    ∷ run ((x := Sum (Read (at p)) (malloc-as int 9)) ∷ [])
     (ending (abort 0) 5) (left 30 none none none [])
     -- "The first abort or no room ends the run at that command": nothing after it is done
     ∷ run ((x := Num 1) ∷ (at p := Num 2) ∷ (x := Num 3) ∷ (v := Malloc (Num 1)) ∷ [])
@@ -135,11 +135,11 @@ order-runs =
     ∷ run ((x := Num 1) ∷ (x := Num 2) ∷ (v := Malloc (Num 8)) ∷ (at p := Num 3) ∷ (v := Malloc (Num 9)) ∷ [])
     (ending (out-of-memory 2) 5) (left 2 none none none [])
     -- "blocks already obtained by it stay": at an abort of its place and of its value, and at no room; the place isn't written
-    ∷ run ((x := Num 1) ∷ (Deref (Sum (obtained int* 2) (Num 2)) := Num 9) ∷ (x := Num 3) ∷ [])
+    ∷ run ((x := Num 1) ∷ (Deref (Sum (malloc-as int* 2) (Num 2)) := Num 9) ∷ (x := Num 3) ∷ [])
     (ending (abort 1) 7) (left 1 none none none (clear 2))
-    ∷ run ((Deref (obtained int* 2) := Read (at p)) ∷ (x := Num 3) ∷ [])
+    ∷ run ((Deref (malloc-as int* 2) := Read (at p)) ∷ (x := Num 3) ∷ [])
     (ending (abort 0) 7) (left 30 none none none (clear 2))
-    ∷ run ((v := Malloc (Num 1)) ∷ (Deref (obtained int* 2) := obtained int 5) ∷ (x := Num 3) ∷ [])
+    ∷ run ((v := Malloc (Num 1)) ∷ (Deref (malloc-as int* 2) := malloc-as int 5) ∷ (x := Num 3) ∷ [])
     (ending (out-of-memory 1) 8) (left 30 none (bounded 5 5 6) none (clear 3))
     ∷ []
 
@@ -147,7 +147,7 @@ order-runs =
 
 -- r = (record 1*)malloc(n), and then this
 abbrev in-record : ℕ → Command → Answer → List Datum → Example
-in-record n c = run ((r := obtained record-1* n) ∷ c ∷ [])
+in-record n c = run ((r := malloc-as record-1* n) ∷ c ∷ [])
 
 -- v = (void*)&t
 abbrev shows : Term → Command
@@ -270,14 +270,14 @@ value-runs =
 unfoldable pub malloc-runs : List Example
 malloc-runs =
     -- "for n = 0, value 0 without bounds", also where memory is full
-    run ((v := Malloc (Num 0)) ∷ (p := obtained int* 1) ∷ []) (ending done 6) (left 30 (bounded 5 5 6) none none (clear 1))
+    run ((v := Malloc (Num 0)) ∷ (p := malloc-as int* 1) ∷ []) (ending done 6) (left 30 (bounded 5 5 6) none none (clear 1))
     ∷ run ((v := Malloc (Num 7)) ∷ (v := Malloc (Num 0)) ∷ []) (ending done 12) (left 30 none none none (clear 7))
     -- "no room exactly when U + n exceeds the length", an exact sum; n is whatever its child gives
     ∷ run ((v := Malloc (Num 7)) ∷ []) (ending done 12) (left 30 none (bounded 5 5 12) none (clear 7))
     ∷ run ((v := Malloc (Num 8)) ∷ []) (ending (out-of-memory 0) 5) (left 30 none none none [])
     ∷ run ((v := Malloc (Num 4294967295)) ∷ []) (ending (out-of-memory 0) 5) (left 30 none none none [])
     ∷ run ((v := Malloc (Read x)) ∷ []) (ending (out-of-memory 0) 5) (left 30 none none none [])
-    ∷ run ((v := Malloc (obtained int 2)) ∷ []) (ending done 12) (left 30 none (bounded 7 7 12) none (clear 7))
+    ∷ run ((v := Malloc (malloc-as int 2)) ∷ []) (ending done 12) (left 30 none (bounded 7 7 12) none (clear 7))
     ∷ run (m ∷ (v := Malloc (Num 5)) ∷ []) (ending done 12) (left 30 (bounded 5 5 7) (bounded 7 7 12) none (clear 7))
     ∷ run (m ∷ (v := Malloc (Num 6)) ∷ []) (ending (out-of-memory 1) 7) (left 30 (bounded 5 5 7) none none (clear 2))
     -- "value U, bounds [U, U + n), and U rises by n. The new words are clear": after the words before them were written

@@ -1,8 +1,8 @@
 // The sizes of a table's records and the offsets of their fields, for a run to look up.
 ghost use mathlib.Core.Path.{_≡_};
-ghost use Prim.Native.Nat.{_+_, _-_, _≤_, _<_, _^_};
+ghost use Prim.Native.Nat.{_+_, _≤_, _<_, _^_};
 ghost use lib.ListN.{length};
-ghost use Rattle.semantics.specs.Words.{word};
+ghost use Rattle.semantics.specs.Words.{Words, word};
 ghost use Rattle.semantics.specs.Table.{count, item, record-target, field-total, first-field, field-offset, size-of};
 ghost use Rattle.semantics.proofs.Passed.{Types-passed};
 ghost use Rattle.layout.specs.Layout.{Stands};
@@ -24,7 +24,7 @@ fn words_of(t: &[u32], fields: Section, field: usize) -> u32
 // The fields of record r: the number of its first, and how many there are.
 fn fields_of(first: &[u32; 33], r: usize) -> Section
     requires { ⌜ (r < 32) × (word (now first) r ≤ word (now first) (r + 1)) ⌝ }
-    ensures { λ own. ⌜ (own .at ≡ word (now (first .entry)) r) × (own .count ≡ word (now (first .entry)) (r + 1) - word (now (first .entry)) r) ⌝ }
+    ensures { λ own. ⌜ ((t : Words) → Record-in t (now (first .entry)) r → (own .at ≡ first-field t r) × (own .count ≡ field-total t r)) ⌝ }
 {
     let at = index(first[r]);
     let count = index(first[r + 1]) - at;

@@ -3,7 +3,6 @@
 use Prim.Native.Nat.{_+_, _-_, _≤_}
 use mathlib.Core.Path.{_≡_}
 use native.Mathlib.Omega.{arith}
-use borrow.Author.Needs.{needs}
 use denote.Ref.{now}
 use Rattle.semantics.specs.Table.{record-target, field-total, first-field, field-offset, size-of}
 use Rattle.semantics.proofs.Sizes.{offset-none, offset-last}
@@ -20,12 +19,9 @@ abbrev μ-loop : tie.MeasureT-loop
 
 loop-holds : tie.Need-loop-holds Inv-loop μ-loop
 loop-holds c =
-    let h = c .before .before .pre .1 in
-    let t = now (c .before .before .args .t) in
-    let r = c .before .before .args .r in
-    let own = c .fields-of .ensures in
-    let total : c .fields-of .result .count ≡ field-total t r = omega (arith, own, h .start, h .next) in
-    (omega arith, omega (arith, own, h .start), total, rw total (omega (arith, offset-last t r)))
+    let d = c .before .before in
+    let own = c .fields-of .ensures (now (d .args .t)) (d .pre .1) in
+    (omega arith, own .0, own .1, rw (own .1) (omega (arith, offset-last (now (d .args .t)) (d .args .r))))
 
 words-of-requires : tie.Need-words-of-requires Inv-loop μ-loop
 words-of-requires c κs = let p = c .before .before .before .before .pre in let h = p .1 in (p .0, omega arith)

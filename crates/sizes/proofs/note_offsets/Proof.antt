@@ -2,7 +2,6 @@
 use Prim.Native.Nat.{_+_, _-_, _≤_}
 use mathlib.Core.Path.{_≡_, sym, ap}
 use native.Mathlib.Omega.{arith}
-use borrow.Author.Needs.{needs}
 use denote.Ref.{now}
 use lib.ListN.{length}
 use Rattle.semantics.specs.Table.{field-total, first-field, field-offset}
@@ -22,11 +21,8 @@ abbrev μ-loop : tie.MeasureT-loop
 
 loop-holds : tie.Need-loop-holds Inv-loop μ-loop
 loop-holds c =
-    let h = c .before .before .pre .1 in
-    let t = now (c .before .before .args .t) in
-    let r = c .before .before .args .r in
-    let own = c .fields-of .ensures in
-    (omega arith, omega (arith, own, h .start), omega (arith, own, h .start, h .next), sym (offset-none t r), sym (filled-none _ _ _))
+    let own = c .fields-of .ensures _ (c .before .before .pre .1) in
+    (omega arith, own .0, own .1, sym (offset-none _ _), sym (filled-none _ _ _))
 
 words-of-requires : tie.Need-words-of-requires Inv-loop μ-loop
 words-of-requires c κs = let p = c .before .before .before .before .pre in let h = p .1 in (p .0, omega arith)
