@@ -14,7 +14,7 @@ use Rattle.semantics.specs.Examples.{verdicts, refusals, runs, refused-l
 use Rattle.semantics.specs.RefusalExamples.{sections, declarations, operands, node-types, commands-and-uses}
 use Rattle.semantics.specs.CallExamples.{arguments, register-lists, unequal-lists}
 use Rattle.semantics.specs.RunExamples.{memory-runs, order-runs, place-runs, value-runs, malloc-runs, touched, touches}
-use Rattle.semantics.specs.TreeExamples.{every-kind, roots, trees, small, worked, values, registered, failing, failures, wild, wild-runs}
+use Rattle.semantics.specs.TreeExamples.{every-kind, roots, trees, small, worked, values, registered, failing, failures, wild, wild-runs, measured, depths}
 
 -- To unfold this is to unfold every definition that a call comes down to.
 computed : Example → Example
@@ -128,3 +128,7 @@ values-are-worked-out-so = refl
 pub wild-runs-end-so : map wild wild-runs ≡ wild-runs
 unfolding computed wild wild-runs
 wild-runs-end-so = refl
+
+pub depths-are-measured-so : map measured depths ≡ depths
+unfolding computed measured depths
+depths-are-measured-so = refl
