@@ -1,36 +1,13 @@
-// What a call brings beside its table: the check of its lists and inputs; clearing a list, and storing words in it.
+// What a call brings beside its table: the check of its lists and inputs.
 ghost use mathlib.Core.Path.{_≡_};
 ghost use mathlib.Core.Bool.{_&&_, _||_};
-ghost use Prim.Native.Nat.{_+_, _≤_};
 ghost use lib.Dec.{leb, ltb, eqb};
-ghost use lib.ListN.{length, replicate};
-ghost use lib.Seq.{sets};
+ghost use lib.ListN.{length};
 ghost use Rattle.semantics.specs.Table.{count};
 ghost use Rattle.semantics.specs.Check.{each, input-fault, arguments-fault};
 ghost use Rattle.layout.specs.Layout.{verdict-of, Stands};
 use layout::Section;
 use layout::Verdict;
-
-// Sets every word of a list to 0.
-pub fn clear(list: &mut [u32])
-    ensures { λ r. ⌜ now (list .exit) ≡ replicate (length (now (list .entry))) 0 ⌝ }
-{
-    let n = list.len();
-    for i in 0..n {
-        list[i] = 0;
-    }
-}
-
-// Stores words one after the other, the first at place `at` of a list.
-pub fn store_all(list: &mut [u32], at: usize, words: &[u32])
-    requires { ⌜ at + length (now words) ≤ length (now list) ⌝ }
-    ensures { λ r. ⌜ now (list .exit) ≡ sets (now (list .entry)) at (now (words .entry)) ⌝ }
-{
-    let n = words.len();
-    for i in 0..n {
-        list[at + i] = words[i];
-    }
-}
 
 // A variable takes any input if it is an int, and 0 else.
 fn fits(kind: u32, input: u32) -> bool

@@ -3,8 +3,6 @@
 // words, all 7 before the run. What is no case is answered by `case`.
 use capi::MavistableAnswer;
 use capi::MavistableVerdict;
-use layout::index;
-use layout::long;
 use libc::STDIN_FILENO;
 use libc::STDOUT_FILENO;
 use stream::least;
@@ -12,6 +10,8 @@ use stream::put_after;
 use text::Scanner;
 ghost use Prim.Native.Nat.{_≤_, _<_};
 ghost use lib.ListN.{length};
+use words::index;
+use words::long;
 
 fn malformed() {
     io::write_all(STDOUT_FILENO, b"case\n");

@@ -14,7 +14,8 @@ use Rattle.semantics.proofs.Invariant.{Inv, permitted-used, Datum-ok, Location-
 use Rattle.semantics.proofs.Passed.{section-ok}
 use Rattle.semantics.proofs.Steps.{Value-ok, place-good, value-good}
 use Rattle.lookups.specs.Lists.{Lists}
-use Rattle.steps.specs.Answers.{column, failed, state-of, Answers, answers-ok, answers-failed, answers-full, Location-answers, Datum-answers}
+use Rattle.words.specs.Columns.{column}
+use Rattle.steps.specs.Answers.{failed, state-of, Answers, answers-ok, answers-failed, answers-full, Location-answers, Datum-answers}
 use Rattle.evaluator.specs.Result.{Ready, Place-ready, Value-ready, Value-answered, Assigned-answered}
 use Rattle.commands.specs.Command.{lists, Command-ready, Evaluates, to-store, evaluates-failed, evaluates-full, Evaluated, Stored, Command-answered}
 

@@ -11,7 +11,8 @@ use Rattle.semantics.specs.Rules.{Datum, Location, Event, Shortfall, Outcome, f
 use Rattle.semantics.proofs.Invariant.{Inv, Datum-ok, Location-ok}
 use Rattle.semantics.proofs.Steps.{Place-ok, Value-ok}
 use Rattle.lookups.specs.Lists.{Lists}
-use Rattle.steps.specs.Answers.{column, failed, full, state-of, Answers}
+use Rattle.words.specs.Columns.{column}
+use Rattle.steps.specs.Answers.{failed, full, state-of, Answers}
 use Rattle.evaluator.specs.Result.{Ready}
 
 -- Values, bases and ends.

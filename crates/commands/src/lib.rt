@@ -4,8 +4,8 @@ ghost use Prim.Native.Nat.{_<_};
 ghost use lib.ListN.{length};
 ghost use Rattle.commands.specs.Command.{lists, Command-ready, Evaluated, Stored, Command-answered};
 ghost use Rattle.commands.specs.Execution.{Executable, Executed};
-use layout::index;
-use layout::low;
+use words::index;
+use words::low;
 
 // From 2^32 on, an answer says how evaluation ended.
 const ENDED: u64 = 4294967296;

@@ -17,7 +17,8 @@ use Rattle.semantics.proofs.Trees.{Node-ok, node-ok, is-child-true}
 use Rattle.semantics.proofs.Invariant.{Inv, Datum-ok, Good, good-ok}
 use Rattle.semantics.proofs.Steps.{Value-ok, place-good, value-good}
 use Rattle.lookups.specs.Lists.{part, Lists, Field-node, Field-ready, Known-word, Known-ready}
-use Rattle.steps.specs.Answers.{column, failed, state-of, Kept, Bounded, answers-ok, answers-failed, answers-full, Datum-answers, Location-answers, Variable-answered, Deref-answered, Field-answered, Sum-answered, Load-answered, Cast-answered, Malloc-answered}
+use Rattle.words.specs.Columns.{column}
+use Rattle.steps.specs.Answers.{failed, state-of, Kept, Bounded, answers-ok, answers-failed, answers-full, Datum-answers, Location-answers, Variable-answered, Deref-answered, Field-answered, Sum-answered, Load-answered, Cast-answered, Malloc-answered}
 use Rattle.evaluator.specs.Result.{Node-ready, Reads-variable, Ready, Place-ready, Pointed-ready, Value-ready, Place-answered, Value-answered, Assigned-answered}
 use Rattle.steps.proofs.Finish.{passed-on, goes-on-good, touched}
 use Rattle.lookups.proofs.Lookups.{item-inside, type-inside, item-is, noted-type}

@@ -10,7 +10,8 @@ use Rattle.semantics.specs.Rules.{Event, place-at, value-at}
 use Rattle.semantics.proofs.Invariant.{Inv}
 use Rattle.semantics.proofs.Steps.{Place-ok, Value-ok}
 use Rattle.lookups.specs.Lists.{part, Lists, Field-ready}
-use Rattle.steps.specs.Answers.{column, state-of, Datum-answers, Location-answers}
+use Rattle.words.specs.Columns.{column}
+use Rattle.steps.specs.Answers.{state-of, Datum-answers, Location-answers}
 
 -- Node n is one of some table with these lists.
 pub record Node-ready (l : List Words) (n : ℕ) : Type 0 where

@@ -8,10 +8,10 @@ ghost use Prim.Native.Nat.{ℕ, _+_, _*_, _<_};
 ghost use lib.ListN.{length};
 ghost use Rattle.semantics.specs.Words.{Words};
 ghost use Rattle.semantics.specs.Table.{known-target, size-of};
-ghost use Rattle.steps.specs.Answers.{column, failed, Bounded};
+ghost use Rattle.words.specs.Columns.{column};
+ghost use Rattle.steps.specs.Answers.{failed, Bounded};
 ghost use Rattle.lookups.specs.Lists.{part, Known-word, Known-ready};
 ghost use Rattle.evaluator.specs.Result.{Node-ready, Reads-variable, Place-ready, Value-ready, Pointed-ready, Place-answered, Value-answered, Assigned-answered};
-use layout::long;
 use lookups::child;
 use lookups::count;
 use lookups::item;
@@ -31,6 +31,7 @@ use steps::number;
 use steps::sum;
 use steps::variable;
 use steps::words;
+use words::long;
 
 // The size that node n asks for, a number.
 fn size(l: &[&[u32]; 7], n: usize, s: &mut [u32; 3]) -> u64

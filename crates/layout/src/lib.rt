@@ -1,6 +1,6 @@
 // The layout of a table, and the check of everything before its nodes: sections, records, fields, pointers, variables.
 ghost use mathlib.Core.Path.{_≡_};
-ghost use Prim.Native.Nat.{ℕ, _+_, _<_, _≤_, _^_};
+ghost use Prim.Native.Nat.{ℕ, _+_, _≤_};
 ghost use lib.ListN.{length, replicate};
 ghost use Rattle.semantics.specs.Words.{Words, word};
 ghost use Rattle.semantics.specs.Table.{count-place, count, entry-words, limits, known-type, known-target, first-field};
@@ -8,6 +8,7 @@ ghost use Rattle.semantics.specs.Check.{each, section-fault, record-fault, fiel
 ghost use Rattle.layout.specs.Layout.{verdict-of, section-by, parsed, Stands, Laid-out};
 ghost use Rattle.layout.specs.Lists.{filled, passed-below};
 ghost use Rattle.layout.specs.Types.{types-fault, slot, Marks, Room, marked, first-left, entry-left, Checked, Looked-up};
+use words::index;
 
 // Where a section's first entry stands, and how many entries it has.
 pub struct Section {
@@ -39,25 +40,6 @@ pub enum Parsed {
 pub enum Verdict {
     Passes,
     Refused(u32, usize),
-}
-
-pub fn index(x: u32) -> usize
-    ensures { λ r. ⌜ (r ≡ x) × (r < 2 ^ 32) ⌝ }
-{
-    x as usize
-}
-
-pub fn long(x: u32) -> u64
-    ensures { λ r. ⌜ (r ≡ x) × (r < 2 ^ 32) ⌝ }
-{
-    x as u64
-}
-
-pub fn low(x: u64) -> u32
-    requires { ⌜ x < 2 ^ 32 ⌝ }
-    ensures { λ r. ⌜ r ≡ x ⌝ }
-{
-    x as u32
 }
 
 impl Section {

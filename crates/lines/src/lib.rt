@@ -1,6 +1,4 @@
 // The lines that the bench program prints for a call: how it ended, and the words of the memory.
-use layout::index;
-use layout::long;
 use machine::Answer;
 use stream::put_after;
 ghost use mathlib.Core.List.{[], _∷_};
@@ -8,6 +6,8 @@ ghost use mathlib.Core.Path.{_≡_};
 ghost use Rattle.machine.specs.Run.{answer-of};
 ghost use Rattle.stream.specs.Items.{word, number, Puts-items};
 ghost use Rattle.lines.specs.Lines.{space, ending-line, unused, word-line};
+use words::index;
+use words::long;
 
 // A word and two numbers.
 fn put_pair(out: &mut [u8], at: usize, bytes: &[u8], x: u64, y: u64) -> usize

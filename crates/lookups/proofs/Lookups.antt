@@ -19,7 +19,7 @@ use Rattle.semantics.proofs.Trees.{Node-ok, node-ok, is-child-true, types-known
 use Rattle.layout.specs.Types.{Record-in}
 use Rattle.layout.proofs.Types.{record-in}
 use Rattle.lookups.specs.Lists.{part, Lists, Field-node, Known-word}
-use Rattle.steps.specs.Answers.{column}
+use Rattle.words.specs.Columns.{column}
 
 few-fields : {t : Words} → Types-passed t → count t fields ≤ 128
 few-fields {t} ok = section-ok t 1 (ok .sections 1 (omega arith)) .limited

@@ -7,7 +7,7 @@ use lib.ListN.{length}
 use Rattle.semantics.specs.Words.{Words, word}
 use Rattle.semantics.specs.Table.{records, fields, pointers, nodes, count, item, record-target, field-total, first-field, field-offset, size-of, field, value, sort-of, node-kind, node-type}
 use Rattle.semantics.proofs.Passed.{Passed}
-use Rattle.steps.specs.Answers.{column}
+use Rattle.words.specs.Columns.{column}
 use Rattle.layout.specs.Types.{Tabulated}
 
 -- Word j of node n.

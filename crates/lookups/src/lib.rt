@@ -8,10 +8,10 @@ ghost use lib.ListN.{length};
 ghost use Rattle.semantics.specs.Words.{Words, word};
 ghost use Rattle.semantics.specs.Table.{known-type, known-target, target, pointed-record, first-field, field-offset, field-count, size-of, node-a, node-b, node-type};
 ghost use Rattle.semantics.specs.Syntax.{step-of};
-ghost use Rattle.steps.specs.Answers.{column};
+ghost use Rattle.words.specs.Columns.{column};
 ghost use Rattle.lookups.specs.Lists.{part, Field-node, Field-ready, Known-word, Known-ready};
 use layout::Table;
-use layout::index;
+use words::index;
 
 // Word i of list j of the table's lists.
 fn entry(l: &[&[u32]; 7], j: usize, i: usize) -> u32

@@ -1,6 +1,5 @@
 // Runs a table: the commands in order over the three lists of the memory.
 ghost use mathlib.Core.Path.{_≡_};
-ghost use Prim.Native.Nat.{_<_, _^_};
 ghost use Rattle.semantics.specs.Safety.{Spatially-safe};
 ghost use Rattle.semantics.specs.Log.{Log-believable};
 ghost use Rattle.semantics.specs.Check.{_or-else_, check, arguments-fault, registers-fault};
@@ -10,8 +9,6 @@ ghost use Rattle.layout.specs.Layout as layout-specs;
 ghost use Rattle.commands.specs.Execution.{ended-of};
 ghost use Rattle.machine.specs.Run.{answer-of, Is, Program, Can-begin, Has-begun, Startable, Executed};
 use arguments::check_arguments;
-use arguments::clear;
-use arguments::store_all;
 use commands::Ended;
 use layout::Parsed;
 use layout::Section;
@@ -19,13 +16,9 @@ use layout::Table;
 use layout::Verdict;
 use registers::check_registers;
 use registers::set_registers;
-
-fn narrow(x: usize) -> u32
-    requires { ⌜ x < 2 ^ 32 ⌝ }
-    ensures { λ r. ⌜ r ≡ x ⌝ }
-{
-    x as u32
-}
+use words::clear;
+use words::narrow;
+use words::store_all;
 
 // How a call ended: refused with number and place; done with U; aborted or out of memory with command number and U.
 pub enum Answer {

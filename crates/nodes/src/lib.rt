@@ -18,7 +18,7 @@ ghost use Rattle.nodes.specs.Promises.{Noted-to, Placed, Reached, Reache
 use layout::Section;
 use layout::Table;
 use layout::Verdict;
-use layout::index;
+use words::index;
 
 // A note is a type and the sort of the node's kind. Types are below 128.
 pub const VALUE: u32 = 0;

@@ -9,10 +9,10 @@ ghost use Rattle.semantics.specs.Check.{each, extent-fault, names-pointer, name
 ghost use Rattle.semantics.proofs.Registers.{Whole};
 ghost use Rattle.layout.specs.Layout.{verdict-of, Stands};
 ghost use Rattle.registers.specs.Blocks.{Register-set, Registers-set, Fits, All-fit};
-use arguments::store_all;
 use layout::Section;
 use layout::Verdict;
-use layout::index;
+use words::index;
+use words::store_all;
 
 // The most registers of a list.
 const MOST: u32 = 16;

@@ -3,8 +3,6 @@
 // lists lent, with the word 7 in every place; LK is not used, LIGHT is 0; i.. are the inputs, r.. the register list and t.. the table. A
 // line that is none is answered by `case`.
 use layout::Verdict;
-use layout::index;
-use layout::long;
 use machine::Answer;
 use stream::Part;
 use stream::least;
@@ -14,6 +12,8 @@ use text::Scanner;
 ghost use Prim.Native.Nat.{_≤_, _<_};
 ghost use lib.ListN.{length};
 ghost use Rattle.replay.specs.Case.{Parsed};
+use words::index;
+use words::long;
 
 // What the numbers of a line ask for: where the register list starts, for a run, and where the table does.
 enum Case {

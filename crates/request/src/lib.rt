@@ -1,7 +1,7 @@
 // What the numbers of a text ask of the bench program.
-use layout::index;
 use text::Scanner;
 ghost use Rattle.request.specs.Request.{Requested};
+use words::index;
 
 // A run in memory of some length, of the table that starts at some place; or the numbers are no input.
 pub enum Request {

@@ -10,7 +10,7 @@ ghost use Rattle.layout.specs.Lists.{filled};
 ghost use Rattle.layout.specs.Types.{Tabulated, Record-in};
 ghost use Rattle.sizes.specs.Sizes.{sizes-noted, offsets-noted};
 use layout::Section;
-use layout::index;
+use words::index;
 
 // How many words a field has.
 fn words_of(t: &[u32], fields: Section, field: usize) -> u32

@@ -14,7 +14,8 @@ use Rattle.semantics.specs.Rules.{Datum, unbounded, Location, variable-location
 use Rattle.semantics.proofs.Tests.{in-bounds-true}
 use Rattle.semantics.proofs.Invariant.{Inv, permitted-used, Datum-ok, Location-ok, Good, good-ok}
 use Rattle.semantics.proofs.Steps.{block-clear}
-use Rattle.steps.specs.Answers.{column, failed, full, state-of, Answers, answers-ok, answers-failed, answers-full, Location-answers, Datum-answers, within-bounds, Variable-answered, Deref-answered, Field-answered, Sum-answered, Load-answered, Cast-answered, Malloc-answered}
+use Rattle.words.specs.Columns.{column}
+use Rattle.steps.specs.Answers.{failed, full, state-of, Answers, answers-ok, answers-failed, answers-full, Location-answers, Datum-answers, within-bounds, Variable-answered, Deref-answered, Field-answered, Sum-answered, Load-answered, Cast-answered, Malloc-answered}
 
 -- ---- bounds
 

@@ -1,20 +1,11 @@
--- The lists behind an array of references as a list of lists, and the three words that hold base, end and U.
+-- The three words that hold base, end and U.
 use Prim.Native.Nat.{ℕ}
 use mathlib.Core.Path.{_≡_, refl, _∙_}
-use mathlib.Core.List.{List, [], map}
 use native.Mathlib.Omega.{arith}
-use lib.ListN.{length, getD, set, length-set, List·getD-map}
+use lib.ListN.{length, set, length-set}
 use lib.Seq.{getD-set-same, getD-set-other}
-use denote.Ref.{RefT}
 use Rattle.semantics.specs.Words.{Words, word}
 use Rattle.steps.specs.Answers.{Kept, Bounded}
-
--- An element that is not there counts as this reference to nothing.
-abbrev pub nothing : RefT (List ℕ)
-nothing = record { ptr = (0, 0); name = 0; now = [] }
-
-pub element : (l : List (RefT (List ℕ))) (j : ℕ) → getD (map (λ x. x .now) l) j [] ≡ (getD l j nothing) .now
-element l j = List·getD-map (λ (x : RefT (List ℕ)). x .now) l j nothing
 
 pub kept-all : {s : Words} → length s ≡ 3 → Kept s s
 kept-all room = record { room = room; unused = refl }

@@ -2,16 +2,13 @@
 use Prim.Native.Nat.{ℕ, _<_}
 use mathlib.Core.Bool.{Bool}
 use mathlib.Core.Path.{_≡_}
-use mathlib.Core.List.{List, []}
-use lib.ListN.{length, getD}
+use mathlib.Core.List.{List}
+use lib.ListN.{length}
+use Rattle.words.specs.Columns.{column}
 use Rattle.semantics.specs.Words.{Words, word}
 use Rattle.semantics.specs.Table.{is-pointer}
 use Rattle.semantics.specs.Rules.{Datum, Location, Event, Shortfall, State, Outcome, ok, fails, no-room, bind, variable-location, in-bounds, deref-step, field-step, read-step, sum-step, cast-step, malloc-step}
 use Rattle.semantics.proofs.Invariant.{Datum-ok, Location-ok, Good}
-
--- List j of some lists.
-abbrev pub column : List Words → ℕ → Words
-column l j = getD l j []
 
 abbrev pub failed : ℕ
 failed = 4294967296

@@ -8,9 +8,10 @@ ghost use Prim.Native.Nat.{_<_, _^_};
 ghost use lib.ListN.{length};
 ghost use Rattle.semantics.specs.Words.{word};
 ghost use Rattle.semantics.specs.Table.{is-pointer};
-ghost use Rattle.steps.specs.Answers.{column, failed, within-bounds, Variable-answered, Deref-answered, Field-answered, Sum-answered, Load-answered, Cast-answered, Malloc-answered, Kept, Bounded};
-use layout::long;
-use layout::low;
+ghost use Rattle.words.specs.Columns.{column};
+ghost use Rattle.steps.specs.Answers.{failed, within-bounds, Variable-answered, Deref-answered, Field-answered, Sum-answered, Load-answered, Cast-answered, Malloc-answered, Kept, Bounded};
+use words::long;
+use words::low;
 
 pub const FAILED: u64 = 4294967296;
 

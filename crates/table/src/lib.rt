@@ -14,8 +14,8 @@ use layout::Parsed;
 use layout::Section;
 use layout::Table;
 use layout::Verdict;
-use layout::index;
 use sizes::note_sizes;
+use words::index;
 
 // 7, 5 and 8 for the first node at fault. The nodes before it are noted; where all pass, the uses by nodes are counted.
 fn check_nodes(

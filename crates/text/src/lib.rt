@@ -1,36 +1,20 @@
 // Texts of decimal numbers: a scanner that reads one in chunks, and a writer.
 ghost use mathlib.Core.Path.{_≡_};
-ghost use Prim.Native.Nat.{ℕ, _+_, _%_, _<_, _^_};
+ghost use Prim.Native.Nat.{ℕ, _+_, _%_};
 ghost use mathlib.Core.List.{List, []};
 ghost use lib.ListN.{length};
 ghost use Rattle.text.specs.Numbers.{separator};
 ghost use Rattle.text.specs.Scan.{fresh, held, take-digit, take-byte, Scanned, Scans, Finishes};
 ghost use Rattle.text.specs.Decimal.{decimal, Puts, Written};
+use words::long;
+use words::low;
+use words::wide;
 
 // How far a text has been read: how many numbers have ended, and the value of the number in progress.
 pub struct Scanner {
     pub count: usize,
     pub value: u32,
     pub state: u32,
-}
-
-fn long(x: u32) -> u64
-    ensures { λ r. ⌜ (r ≡ x) × (r < 2 ^ 32) ⌝ }
-{
-    x as u64
-}
-
-fn wide(x: u8) -> u64
-    ensures { λ r. ⌜ (r ≡ x) × (r < 2 ^ 8) ⌝ }
-{
-    x as u64
-}
-
-fn low(x: u64) -> u32
-    requires { ⌜ x < 2 ^ 32 ⌝ }
-    ensures { λ r. ⌜ r ≡ x ⌝ }
-{
-    x as u32
 }
 
 fn is_separator(b: u8) -> bool

@@ -27,7 +27,7 @@ use Rattle.steps.proofs.sum.Reads as sum-reads
 use Rattle.lookups.proofs.type_of.Reads as type-of-reads
 use Rattle.steps.proofs.variable.Reads as variable-reads
 use Rattle.steps.proofs.words.Reads as words-reads
-use Rattle.layout.proofs.long.Reads as long-reads
+use Rattle.words.proofs.long.Reads as long-reads
 use Rattle.evaluator.proofs.+place+value.{statement}
 use Rattle.evaluator.proofs.+place+value.Tie.{close}
 use Rattle.evaluator.proofs.Evaluation.{falls-to, falls-through, pointed-ready, reads, malloc-item, malloc-constant-answer, place-item, variable-small, child-ready, value-item, value-type, sum-ready, child-type, step-ready, right-item, right-ready, read-ready, read-item, read-inside, address-ready, cast-ready, size-ready, malloc-kind, malloc-ready, variable-answer, constant-answer, size-answer, sum-ended-answer, sum-answer, sum-constant-answer, read-answer, address-answer, cast-answer, malloc-answer}

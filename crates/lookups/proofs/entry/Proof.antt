@@ -4,7 +4,7 @@ use mathlib.Core.Path.{sym, ap, subst}
 use mathlib.Core.List.{List}
 use borrow.Author.Needs.{needs}
 use lib.ListN.{length, getD}
-use Rattle.steps.proofs.Memory.{element}
+use Rattle.words.proofs.Columns.{element}
 use Rattle.lookups.proofs.entry.Statement.{statement}
 use Rattle.lookups.proofs.entry.Tie as tie
 

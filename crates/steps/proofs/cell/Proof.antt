@@ -5,7 +5,7 @@ use mathlib.Core.List.{List}
 use native.Mathlib.Omega.{arith}
 use borrow.Author.Needs.{needs}
 use lib.ListN.{length, getD}
-use Rattle.steps.proofs.Memory.{element}
+use Rattle.words.proofs.Columns.{element}
 use Rattle.steps.proofs.cell.Statement.{statement}
 use Rattle.steps.proofs.cell.Tie as tie
 

@@ -2,7 +2,7 @@
 use mathlib.Core.Path.{sym, ap}
 use borrow.Author.Needs.{needs}
 use lib.ListN.{length}
-use Rattle.steps.proofs.Memory.{element}
+use Rattle.words.proofs.Columns.{element}
 use Rattle.steps.proofs.words.Statement.{statement}
 use Rattle.steps.proofs.words.Tie as tie
 

@@ -1,12 +1,12 @@
--- `arguments::store_all` meets its contract. The loop's invariant: the first i words are stored. Assumes nothing.
+-- `words::store_all` meets its contract. The loop's invariant: the first i words are stored. Assumes nothing.
 use Prim.Native.Nat.{_≤_, _-_}
 use mathlib.Core.Path.{_≡_, refl}
 use native.Mathlib.Omega.{arith}
 use borrow.Author.Needs.{needs}
 use lib.ListN.{length}
-use Rattle.arguments.proofs.Lists.{Copied, copied-none, copied-length, copied-more, copied-all}
-use Rattle.arguments.proofs.store_all.Statement.{statement}
-use Rattle.arguments.proofs.store_all.Tie as tie
+use Rattle.words.proofs.Lists.{Copied, copied-none, copied-length, copied-more, copied-all}
+use Rattle.words.proofs.store_all.Statement.{statement}
+use Rattle.words.proofs.store_all.Tie as tie
 
 abbrev Inv-loop : tie.InvT-loop
 Inv-loop list₀ at words n i₀ list i = (n ≡ length words) × (i ≤ n) × Copied list₀ at words list i

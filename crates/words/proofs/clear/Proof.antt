@@ -1,11 +1,11 @@
--- `arguments::clear` meets its contract. The loop's invariant: the list is 0 below i. Assumes nothing.
+-- `words::clear` meets its contract. The loop's invariant: the list is 0 below i. Assumes nothing.
 use Prim.Native.Nat.{_≤_, _-_}
 use mathlib.Core.Path.{_≡_, refl}
 use native.Mathlib.Omega.{arith}
 use lib.ListN.{length}
-use Rattle.arguments.proofs.Lists.{Cleared, cleared-none, cleared-more, cleared-all}
-use Rattle.arguments.proofs.clear.Statement.{statement}
-use Rattle.arguments.proofs.clear.Tie as tie
+use Rattle.words.proofs.Lists.{Cleared, cleared-none, cleared-more, cleared-all}
+use Rattle.words.proofs.clear.Statement.{statement}
+use Rattle.words.proofs.clear.Tie as tie
 
 abbrev Inv-loop : tie.InvT-loop
 Inv-loop list₀ n i₀ list i = (n ≡ length list₀) × (i ≤ n) × Cleared list₀ list i

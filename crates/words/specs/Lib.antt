@@ -1,0 +1,2 @@
+-- What the contracts of this crate and of others cite.
+pub mod Columns
