@@ -1,16 +1,16 @@
 -- A whole call of a table that passed the check, from what its parts did.
 use Prim.Native.Nat.{ℕ, _+_, _*_, _-_, _≤_, _<_}
 use mathlib.Core.Path.{_≡_, refl, sym, ap, _∙_}
-use mathlib.Core.List.{[], _∷_}
+use mathlib.Core.List.{[], _∷_, _++_}
 use native.Mathlib.Omega.{arith}
-use lib.ListN.{length, take, drop, replicate, length-replicate, length-drop}
+use lib.ListN.{length, take, drop, set, replicate, length-set, length-replicate, length-drop}
 use lib.Seq.{sets, take-length, length-sets, getD-drop}
 use Rattle.semantics.specs.Words.{Words}
 use Rattle.semantics.specs.Table.{variables, count}
 use Rattle.semantics.specs.Registers.{register-count}
 use Rattle.semantics.specs.Check.{Verdict, passes, refused, _or-else_, check, arguments-fault, registers-fault, call-fault}
 use Rattle.semantics.specs.Rules.{State}
-use Rattle.semantics.specs.Run.{cleared, begin, run, call}
+use Rattle.semantics.specs.Run.{cleared, registers-below, begin, run, call}
 use Rattle.semantics.proofs.Passed.{Passed, passed, section-ok, section-end}
 use Rattle.semantics.proofs.Safety.{Begun, begun, cleared-inv, begin-inv}
 use Rattle.lookups.specs.Lists.{Lists}
@@ -22,7 +22,9 @@ use Rattle.layout.specs.declared.Verdict as told
 use Rattle.layout.specs.declared.Verdict.the-variants as the
 use Rattle.layout.proofs.Laws.{or-else-pass, or-else-refuse, told-as, item-at}
 use Rattle.nodes.specs.Nodes.{note}
-use Rattle.registers.specs.Blocks.{memory, Holds, Registers-set, All-fit}
+use Rattle.words.proofs.Lists.{front-sets, zeros-from}
+use Rattle.registers.specs.Blocks.{memory, Holds, Registers-set, Alike, All-fit}
+use Rattle.registers.proofs.Blocks.{registers-alike}
 use Rattle.commands.specs.Command.{lists}
 use Rattle.commands.specs.Execution as commands
 use Rattle.commands.specs.Execution.{ended-of, Starts}
@@ -82,39 +84,84 @@ holds-state h = rw (h .values, h .bases, h .ends, h .unused)
 pub few-variables : {vars : ℕ} {inputs registers vs bs es : Words} → Can-begin vars inputs registers vs bs es → vars ≤ 64
 few-variables x = let k = section-ok (x .table) 3 (x .begun .table .types .sections 3 (omega arith)) in omega (arith, k .limited, x .total)
 
--- A list that was cleared is as long as it was.
-cleared-length : (l : Words) {l′ : Words} → l′ ≡ replicate (length l) 0 → length l′ ≡ length l
-cleared-length l e = ap length e ∙ length-replicate (length l) 0
+-- Word 0 of a list that was cleared.
+first-cleared : (l : Words) → 0 < length l → take 1 (set l 0 0) ≡ take 1 (replicate (length l) 0)
+first-cleared [] h = absurd (omega arith)
+first-cleared (y ∷ l) h = refl
 
-module _ {vars : ℕ} {inputs registers vs bs es v₀ : Words} (x : Can-begin vars inputs registers vs bs es) (hv₀ : v₀ ≡ replicate (length vs) 0) where
+module _ {vars : ℕ} {inputs registers vs bs es : Words} (x : Can-begin vars inputs registers vs bs es) where
+  first-state : State
+  first-state = cleared (x .table) inputs (length vs)
+
   -- The inputs have room, after word 0.
-  pub inputs-fit : 1 + length inputs ≤ length v₀
-  inputs-fit = omega (arith, cleared-length vs hv₀, x .begun .lists .room, x .begun .lists .inputs-length)
+  pub inputs-fit : (y : ℕ) → 1 + length inputs ≤ length (set vs 0 y)
+  inputs-fit y = omega (arith, length-set vs 0 y, x .begun .lists .room, x .begun .lists .inputs-length)
 
-  module _ {v₁ b₁ e₁ : Words} (hb : b₁ ≡ replicate (length bs) 0) (he : e₁ ≡ replicate (length es) 0) (hv₁ : v₁ ≡ sets v₀ 1 inputs) {u : ℕ} (hu : u ≡ vars + 1) where
+  module _ {v₁ b₁ e₁ : Words} (hb : b₁ ≡ replicate (length bs) 0) (he : e₁ ≡ replicate (length es) 0) (hv : v₁ ≡ sets (set vs 0 0) 1 inputs) {u : ℕ} (hu : u ≡ vars + 1) where
     values-length : length v₁ ≡ length vs
-    values-length = ap length hv₁ ∙ length-sets v₀ 1 inputs ∙ cleared-length vs hv₀
+    values-length = ap length hv ∙ length-sets (set vs 0 0) 1 inputs ∙ length-set vs 0 0
 
-    cleared-memory : (t : Words) → vars ≡ count t variables → cleared t inputs (length vs) ≡ memory v₁ b₁ e₁ u
-    unfolding cleared
-    cleared-memory t total =
-        let e : u ≡ 1 + count t variables = omega arith in
-        rw (hv₁, hv₀, hb, he, ← (x .begun .lists .same-bases), ← (x .begun .lists .same-ends), e)
+    -- The words of the variables are the inputs.
+    cleared-alike : Alike (memory v₁ b₁ e₁ u) first-state
+    unfolding first-state cleared
+    cleared-alike =
+        let zeros : Words = replicate (length vs) 0 in
+        let many : length zeros ≡ length vs = length-replicate (length vs) 0 in
+        let e : u ≡ 1 + length inputs = omega (arith, x .begun .lists .inputs-length, x .total) in
+        let fits : 1 + length inputs ≤ length vs = omega (arith, inputs-fit 0, length-set vs 0 0) in
+        record {
+          same-length = values-length ∙ sym (length-sets zeros 1 inputs ∙ many);
+          values = rw (e, hv)
+              (front-sets (set vs 0 0) 1 inputs (inputs-fit 0) ∙ ap (λ (l : Words). l ++ inputs) (first-cleared vs (omega arith))
+              ∙ sym (front-sets zeros 1 inputs (omega arith)));
+          bases = rw (hb, ← (x .begun .lists .same-bases));
+          ends = rw (he, ← (x .begun .lists .same-ends));
+          unused = omega (arith, x .total);
+        }
 
     pub registers-fit : All-fit registers u v₁ b₁ e₁
+    unfolding first-state
     registers-fit =
         let b = x .begun in
         record {
           table = x .table;
           list = rw values-length (b .blocks);
           first = omega (arith, x .total);
-          inv = rw values-length (rw (cleared-memory (x .table) (x .total)) at (cleared-inv (b .lists)));
+          state = first-state;
+          alike = cleared-alike;
+          inv = rw values-length (cleared-inv (b .lists));
           most = omega (arith, values-length, b .lists .most);
         }
 
-    pub has-begun : {u′ : ℕ} {vs′ bs′ es′ : Words} → Registers-set registers (register-count registers) v₁ b₁ e₁ u vs′ bs′ es′ u′ → Has-begun vars inputs registers vs vs′ bs′ es′ u′
-    unfolding begin
-    has-begun h = record { begins = λ t total. rw (cleared-memory t total) (h .holds) }
+    -- The registers' words are in memory, and those after them are cleared.
+    module _ {u′ : ℕ} {v₂ b₂ e₂ : Words} (h : Registers-set registers (register-count registers) v₁ b₁ e₁ u v₂ b₂ e₂ u′) where
+      first-begins : Alike (registers-below registers (register-count registers) (memory v₁ b₁ e₁ u)) (begin (x .table) inputs registers (length vs))
+      unfolding begin first-state
+      first-begins = registers-alike (x .begun .blocks) (omega (arith, x .total)) (cleared-inv (x .begun .lists)) cleared-alike (register-count registers) (omega arith)
+
+      pub unused-fits : u′ ≤ length v₂
+      unused-fits =
+          let i = begin-inv (x .begun) in
+          omega (arith, i .high, i .values-length, first-begins .unused, first-begins .same-length, h .holds .unused, ap length (h .holds .values))
+
+      same-begin : (t : Words) → vars ≡ count t variables → begin t inputs registers (length vs) ≡ begin (x .table) inputs registers (length vs)
+      unfolding begin cleared
+      same-begin t total = rw (← total, ← (x .total))
+
+      begins-at : {v₃ : Words} {k : ℕ} → k ≡ u′ → v₃ ≡ take k v₂ ++ replicate (length v₂ - k) 0 → Holds (begin (x .table) inputs registers (length vs)) v₃ b₂ e₂ u′
+      begins-at e cleared =
+          let a = first-begins in
+          let s = begin (x .table) inputs registers (length vs) in
+          let m = h .holds in
+          record {
+            values = cleared ∙ rw (e, m .values, m .unused, a .values, a .same-length, a .unused) (zeros-from (s .values) (s .unused) (λ w less. begin-inv (x .begun) .clear w less .0));
+            bases = m .bases ∙ a .bases;
+            ends = m .ends ∙ a .ends;
+            unused = m .unused ∙ a .unused;
+          }
+
+      pub has-begun : {v₃ : Words} {k : ℕ} → k ≡ u′ → v₃ ≡ take k v₂ ++ replicate (length v₂ - k) 0 → Has-begun vars inputs registers vs v₃ b₂ e₂ u′
+      has-begun e cleared = record { begins = λ t total. rw (same-begin t total) (begins-at e cleared) }
 
 -- ---- a table that passed
 

@@ -17,6 +17,8 @@ use layout::Verdict;
 use registers::check_registers;
 use registers::set_registers;
 use words::clear;
+use words::clear_from;
+use words::index;
 use words::narrow;
 use words::store_all;
 
@@ -58,7 +60,8 @@ fn check_call(
     check_registers(t, variables, registers, values)
 }
 
-// The memory that a run begins with: clear, but for the inputs and the registers. Answers the first unused word.
+// The memory that a run begins with: clear, but for the inputs and the registers. Answers the first unused word. Every word of a variable or of
+// a register is stored, so of `values` only the others are cleared.
 fn begin(
     variables: usize,
     inputs: &[u32],
@@ -70,11 +73,13 @@ fn begin(
     requires { ⌜ Can-begin variables (now inputs) (now registers) (now values) (now bases) (now ends) ⌝ }
     ensures { λ r. ⌜ Has-begun variables (now (inputs .entry)) (now (registers .entry)) (now (values .entry)) (now (values .exit)) (now (bases .exit)) (now (ends .exit)) r ⌝ }
 {
-    clear(values);
     clear(bases);
     clear(ends);
+    values[0] = 0;
     store_all(values, 1, inputs);
-    set_registers(registers, narrow(variables) + 1, values, bases, ends)
+    let unused = set_registers(registers, narrow(variables) + 1, values, bases, ends);
+    clear_from(values, index(unused));
+    unused
 }
 
 // The commands of a table that passed the check, from the memory that a run begins with: lends the evaluator the table's lists.

@@ -40,11 +40,21 @@ pub record Fits (l : Words) (p u : ℕ) (vs bs es : Words) : Type 0 where
   -- No word has bounds from there on, so none has to be cleared.
   pub clear : (w : ℕ) → u ≤ w → (word bs w ≡ 0) × (word es w ≡ 0)
 
--- All registers of a list that is not refused fit from word u on, the first after the variables of some table, in memory that a run of it can
--- have.
+-- Two states are alike but for their logs, and for values of words that are not in use.
+pub record Alike (s s′ : State) : Type 0 where
+  pub same-length : length (s .values) ≡ length (s′ .values)
+  pub values : take (s .unused) (s .values) ≡ take (s .unused) (s′ .values)
+  pub bases : s .bases ≡ s′ .bases
+  pub ends : s .ends ≡ s′ .ends
+  pub unused : s .unused ≡ s′ .unused
+
+-- All registers of a list that is not refused fit from word u on, the first after the variables of some table, in memory that is like one that
+-- a run of it can have.
 pub record All-fit (l : Words) (u : ℕ) (vs bs es : Words) : Type 0 where
   pub table : Words
   pub list : Listed table l (length vs)
   pub first : u ≡ 1 + count table variables
-  pub inv : Inv (count table variables) (length vs) (memory vs bs es u)
+  pub state : State
+  pub alike : Alike (memory vs bs es u) state
+  pub inv : Inv (count table variables) (length vs) state
   pub most : length vs ≤ 65536

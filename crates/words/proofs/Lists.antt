@@ -1,13 +1,13 @@
--- Lists that a loop fills: with 0, or from some index on with another list.
-use Prim.Native.Nat.{ℕ, suc, _+_, _≤_, _<_}
+-- Lists that a loop fills: with 0, or from some index on with another list; and lists of which a part is stored or cleared.
+use Prim.Native.Nat.{ℕ, suc, _+_, _-_, _≤_, _<_}
 use mathlib.Core.Path.{_≡_, refl, sym, ap, _∙_}
-use mathlib.Core.List.{List, [], _∷_, _++_}
+use mathlib.Core.List.{List, [], _∷_, _++_, append-nil}
 use native.Mathlib.Omega.{arith}
 use native.Mathlib.Decide.{ℕ-discrete}
 use native.Mathlib.Numerals.{add-one}
 use native.Mathlib.Nat.{add-zero, add-suc, suc-add}
-use lib.ListN.{length, getD, take, set, replicate, length-set, length-replicate, getD-replicate}
-use lib.Seq.{sets, ext-getD, getD-set-same, getD-set-other, take-suc, length-take-le, take-all, length-sets}
+use lib.ListN.{length, getD, take, drop, set, replicate, length-set, length-append, length-drop, take-append-drop, length-replicate, getD-replicate}
+use lib.Seq.{sets, ext-getD, getD-set-same, getD-set-other, take-suc, length-take-le, take-all, take-length, drop-length, take-at, getD-drop, length-sets, sets-eq}
 
 -- The list is as long as l₀ and 0 below i.
 pub record Cleared (l₀ l : List ℕ) (i : ℕ) : Type 0 where
@@ -58,3 +58,25 @@ copied-more {l₀} {a} {xs} {l} {i} h inside =
 
 pub copied-all : {l₀ : List ℕ} {a : ℕ} {xs l : List ℕ} {i : ℕ} → Copied l₀ a xs l i → length xs ≤ i → l ≡ sets l₀ a xs
 copied-all {l₀} {a} {xs} {i = i} h all = h .stores ∙ ap (λ ys. sets l₀ a ys) (take-all i xs all)
+
+-- ---- a part of a list
+
+-- A part that was lent from index a on came back as zeros.
+pub part-cleared : (l : List ℕ) (a : ℕ) {ys : List ℕ} → ys ≡ replicate (length (take (length l - a) (drop a l))) 0 → take a l ++ (ys ++ drop (length l - a) (drop a l)) ≡ take a l ++ replicate (length l - a) 0
+part-cleared l a h = rw (h, ← (length-drop a l), take-length (drop a l), drop-length (drop a l)) (ap (λ r. take a l ++ r) (append-nil _))
+
+-- Where words are stored from index i on, the list up to the last of them.
+pub front-sets : (l : List ℕ) (i : ℕ) (xs : List ℕ) → i + length xs ≤ length l → take (i + length xs) (sets l i xs) ≡ take i l ++ xs
+front-sets l i xs fits =
+    ap (take (i + length xs)) (sets-eq xs l i fits)
+    ∙ take-at (take i l ++ xs) (drop (i + length xs) l) (i + length xs) (length-append (take i l) xs ∙ ap (λ n. n + length xs) (length-take-le i l (omega arith)))
+
+-- Clearing words that are clear changes nothing.
+pub zeros-from : (l : List ℕ) (a : ℕ) → ((k : ℕ) → a ≤ k → getD l k 0 ≡ 0) → take a l ++ replicate (length l - a) 0 ≡ l
+zeros-from l a h =
+    let zeros : List ℕ = replicate (length l - a) 0 in
+    let many : length zeros ≡ length l - a = length-replicate (length l - a) 0 in
+    ap (λ r. take a l ++ r)
+    (ext-getD 0 zeros (drop a l) (many ∙ sym (length-drop a l))
+    (λ i less. getD-replicate (length l - a) i 0 0 (omega arith) ∙ sym (getD-drop a l i 0 ∙ h (a + i) (omega arith))))
+    ∙ take-append-drop a l

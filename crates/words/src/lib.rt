@@ -1,7 +1,8 @@
 // Words and lists of them, whatever they mean: casts between widths, clearing a list, and storing words in it.
 ghost use mathlib.Core.Path.{_≡_};
-ghost use Prim.Native.Nat.{_+_, _≤_, _<_, _^_};
-ghost use lib.ListN.{length, replicate};
+ghost use Prim.Native.Nat.{_+_, _-_, _≤_, _<_, _^_};
+ghost use mathlib.Core.List.{_++_};
+ghost use lib.ListN.{length, take, replicate};
 ghost use lib.Seq.{sets};
 
 pub fn index(x: u32) -> usize
@@ -55,4 +56,12 @@ pub fn store_all(list: &mut [u32], at: usize, words: &[u32])
     for i in 0..n {
         list[at + i] = words[i];
     }
+}
+
+// Sets every word of a list from place `at` on to 0.
+pub fn clear_from(list: &mut [u32], at: usize)
+    requires { ⌜ at ≤ length (now list) ⌝ }
+    ensures { λ r. ⌜ now (list .exit) ≡ take at (now (list .entry)) ++ replicate (length (now (list .entry)) - at) 0 ⌝ }
+{
+    clear(&mut list[at..]);
 }
