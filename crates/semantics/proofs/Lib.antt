@@ -12,5 +12,6 @@ pub mod Steps
 pub mod Registers
 pub mod Trees
 pub mod Equations
+pub mod Ints
 pub mod Safety
 pub mod Depth

@@ -1,0 +1,111 @@
+-- An int value has no bounds.
+use Prim.Native.Nat.{ℕ, zero, suc, _≤_, _<_}
+use mathlib.Core.Bool.{Bool, true, false, _&&_, false≢true}
+use mathlib.Core.Path.{_≡_, refl, sym, ap, _∙_}
+use native.Mathlib.Omega.{arith}
+use native.Mathlib.Nat.{not-suc-le-zero}
+use native.Mathlib.Decide.{ℕ-discrete}
+use lib.ListN.{getD}
+use Rattle.semantics.specs.Words.{Words, word, if_then_else_}
+use Rattle.semantics.specs.Table.{nodes, count, is-pointer, Kind, variable, deref, field, constant, sum, read, address, cast, size, malloc, unknown, value, sort-of, node-kind, node-a, node-b, type-by-kind, type-rule, types-below, node-type}
+use Rattle.semantics.specs.Check.{same-sort, is-child}
+use Rattle.semantics.specs.Syntax.{Place, Value, Number, Sum, Read, Cast, senseless, as-value, tree-by-kind, tree-rule, trees-below, tree-of, value-of}
+use Rattle.semantics.specs.Rules.{Datum, unbounded, Location, loaded, Shortfall, State, noted, Outcome, ok, fails, no-room, no-rule, bind, touchable, contents, read-step, sum-step, cast-step, place-at, value-at}
+use Rattle.semantics.proofs.Passed.{require-passes, Passed}
+use Rattle.semantics.proofs.Trees.{Node-ok, node-ok, is-child-true, types-at, trees-at}
+
+-- ---- outcomes
+
+-- Where there is a datum, it is a value without bounds.
+data Unbounded : Outcome Datum → Type 0 where
+  unbounded-ok : {v : ℕ} {s : State} → Unbounded (ok (unbounded v) s)
+  unbounded-fails : {x : Shortfall} {s : State} → Unbounded (fails x s)
+  unbounded-no-room : {s : State} → Unbounded (no-room s)
+  unbounded-no-rule : {s : State} → Unbounded (no-rule s)
+
+unchanged : {o : Outcome Datum} → Unbounded o → bind o (cast-step false) ≡ o
+unchanged unbounded-ok = refl
+unchanged unbounded-fails = refl
+unchanged unbounded-no-room = refl
+unchanged unbounded-no-rule = refl
+
+bind-unbounded : {A : Type 0} (o : Outcome A) (f : A → State → Outcome Datum) → ((a : A) (s : State) → Unbounded (f a s)) → Unbounded (bind o f)
+bind-unbounded (ok a s) f h = h a s
+bind-unbounded (fails x s) f h = unbounded-fails
+bind-unbounded (no-room s) f h = unbounded-no-room
+bind-unbounded (no-rule s) f h = unbounded-no-rule
+
+read-unbounded : (l : Location) (s : State) → Unbounded (read-step false l s)
+unfolding read-step
+read-unbounded l s = go (touchable s (l .at))
+  where
+    go : (b : Bool) → Unbounded (if b then ok (contents false s (l .at)) (noted (loaded (l .at) (l .access)) s) else no-rule s)
+    go true = unbounded-ok
+    go false = unbounded-no-rule
+
+-- A sum has the bounds of its left operand.
+sum-unbounded : {o : Outcome Datum} (step : ℕ) (right : State → Outcome Datum) → Unbounded o
+    → Unbounded (bind o (λ p s. bind (right s) (sum-step step p)))
+sum-unbounded step right (unbounded-ok {v = v} {s = s}) = bind-unbounded (right s) (sum-step step (unbounded v)) (λ x s′. unbounded-ok)
+sum-unbounded step right unbounded-fails = unbounded-fails
+sum-unbounded step right unbounded-no-room = unbounded-no-room
+sum-unbounded step right unbounded-no-rule = unbounded-no-rule
+
+-- ---- trees
+
+-- The trees of int values. An address is no int, nor is what malloc gives.
+data Int-value : Value → Type 0 where
+  number-int : {n x : ℕ} → Int-value (Number n x)
+  sum-int : {n step : ℕ} {a b : Value} → Int-value a → Int-value (Sum n step a b)
+  read-int : {n : ℕ} {p : Place} → Int-value (Read n false p)
+  cast-int : {n : ℕ} {v : Value} → Int-value (Cast n false v)
+
+int-unbounded : {v : Value} → Int-value v → (s : State) → Unbounded (value-at v s)
+unfolding value-at
+int-unbounded number-int s = unbounded-ok
+int-unbounded (sum-int {step = k} {b = b} a) s = sum-unbounded k (value-at b) (int-unbounded a s)
+int-unbounded (read-int {p = p}) s = bind-unbounded (place-at p s) (read-step false) read-unbounded
+int-unbounded (cast-int {v = v}) s = bind-unbounded (value-at v s) (cast-step false) (λ p s′. unbounded-ok)
+
+-- ---- nodes
+
+abbrev Int-node : Words → ℕ → Type 0
+Int-node t n = sort-of (node-kind t n) ≡ value → node-type t n ≡ 0 → Int-value (value-of t n)
+
+int-no-pointer : (b : Bool) → b && is-pointer 0 ≡ false
+unfolding is-pointer
+int-no-pointer true = refl
+int-no-pointer false = refl
+
+module _ {t : Words} (n : ℕ) (int : node-type t n ≡ 0) (below : (i : ℕ) → i < n → Int-node t i) where
+  int-by-kind : (k : Kind) (a b : ℕ) → Node-ok t n k a b → sort-of k ≡ value → type-by-kind t k a b (word (types-below t n)) ≡ 0
+      → Int-value (as-value (tree-by-kind t n k a b (λ x. getD (trees-below t n) x senseless)))
+  unfolding value-of
+  int-by-kind variable a b g q e = absurd (false≢true (ap (same-sort value) q))
+  int-by-kind deref a b g q e = absurd (false≢true (ap (same-sort value) q))
+  int-by-kind field a b g q e = absurd (false≢true (ap (same-sort value) q))
+  int-by-kind constant a b g q e = number-int
+  int-by-kind sum a b g q e =
+      let c = is-child-true t value n a (require-passes (is-child t value n a) 7 _ (g .a-ok)) in
+      rw (trees-at t n a (c .0)) (sum-int (below a (c .0) (sym (c .1)) (sym (types-at t n a (c .0)) ∙ e)))
+  int-by-kind read a b g q e = rw (int, int-no-pointer true) read-int
+  int-by-kind address a b g q e = absurd (omega arith)
+  int-by-kind cast a b g q e = rw (e, int-no-pointer (is-pointer (node-type t a))) cast-int
+  int-by-kind size a b g q e = number-int
+  int-by-kind malloc a b g q e = absurd (omega arith)
+  int-by-kind unknown a b g q e = absurd (false≢true (ap (same-sort value) q))
+
+int-nodes : {t : Words} → Passed t → (n : ℕ) → n ≤ count t nodes → (i : ℕ) → i < n → Int-node t i
+unfolding node-type type-rule value-of tree-of tree-rule
+int-nodes passed zero h i less = absurd (not-suc-le-zero less)
+int-nodes {t} passed (suc n) h i less = go (ℕ-discrete i n) (int-nodes passed n (omega arith))
+  where
+    go : Dec (i ≡ n) → ((j : ℕ) → j < n → Int-node t j) → Int-node t i
+    go (yes e) below =
+        rw e (λ q int. int-by-kind n int below (node-kind t n) (node-a t n) (node-b t n) (node-ok t n (passed .node-passes n h)) q int)
+    go (no e) below = below i (omega arith)
+
+-- An int value has no bounds: a cast of one changes nothing.
+pub cast-of-int : {t : Words} → Passed t → (n : ℕ) → n < count t nodes → sort-of (node-kind t n) ≡ value → node-type t n ≡ 0 → (s : State)
+    → bind (value-at (value-of t n) s) (cast-step false) ≡ value-at (value-of t n) s
+cast-of-int {t} passed n inside is-value int s = unchanged (int-unbounded (int-nodes passed (count t nodes) (omega arith) n inside is-value int) s)
