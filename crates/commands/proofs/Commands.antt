@@ -1,139 +1,130 @@
 -- What a command answers, from what its place, its value and its store did.
-use Prim.Native.Nat.{ℕ, _≤_, _<_}
+use Prim.Native.Nat.{ℕ, _%_, _≤_, _<_, _^_}
 use mathlib.Core.Bool.{Bool, true, false}
-use mathlib.Core.Path.{_≡_, refl, sym, _∙_}
-use mathlib.Core.List.{List, _∷_}
+use mathlib.Core.Path.{_≡_, refl, sym, ap, _∙_}
+use mathlib.Core.List.{List, _∷_, map}
+use denote.Ref.{RefT}
 use native.Mathlib.Omega.{arith}
 use borrow.Author.Tests.{lt-ltb, le-leb}
 use lib.ListN.{length, set}
-use Rattle.semantics.specs.Words.{Words, word, if_then_else_}
-use Rattle.semantics.specs.Table.{nodes, count, is-pointer, node-type}
-use Rattle.semantics.specs.Syntax.{value-of}
-use Rattle.semantics.specs.Rules.{Datum, Location, Event, stored, State, noted, Outcome, bind, touchable, value-at, with-datum, assign-step, assign}
-use Rattle.semantics.proofs.Invariant.{Inv, permitted-used, Datum-ok, Location-ok, location-later, Good, good-ok}
-use Rattle.semantics.proofs.Passed.{section-ok}
-use Rattle.semantics.proofs.Steps.{Value-ok, place-good, value-good}
-use Rattle.lookups.specs.Lists.{Lists}
 use Rattle.words.specs.Columns.{column}
-use Rattle.steps.specs.Answers.{failed, state-of, Answers, answers-ok, answers-failed, answers-full, Location-answers, Datum-answers}
-use Rattle.evaluator.specs.Result.{Ready, Place-ready, Value-ready, Value-answered, Assigned-answered}
-use Rattle.commands.specs.Command.{lists, Command-ready, Evaluates, to-store, evaluates-failed, evaluates-full, Evaluated, Stored, Command-answered}
-
--- ---- the place and the value
-
-module _ {l m : List Words} {p v : ℕ} {s : Words} (h : Command-ready l m p v s) where
-  pub place-first : Place-ready l m p s
-  place-first =
-      let k = h .nodes-are in record { table = h .table; lists = k .lists-of; node = k .place-node; room = h .room; state = h .state; tree = k .place-tree }
-
-state-after : {vars w b e u : ℕ} {m : List Words} {s₀ : State} {o : Outcome Location} → length (column m 0) ≤ 65536 → Location-answers m w b e u o
-    → Good vars (length (column m 0)) s₀ (Location-ok vars) o → w < failed → (h : Ready m u) × (h .vars ≡ vars)
-state-after {vars} most (answers-ok x log p q s small) (good-ok inv later fine) under = (record { vars = vars; log = log; inv = inv; most = most }, refl)
-state-after most (answers-failed x log h) g under = absurd (omega arith)
-state-after most (answers-full log h) g under = absurd (omega arith)
-
-pub value-next : {l m : List Words} {p v w : ℕ} {s s′ : Words} → Command-ready l m p v s → Assigned-answered l m p s w s′ → w < failed → Value-ready l m v s′
-value-next h answer under =
-    let k = h .nodes-are in
-    let after = state-after (h .state .most) (answer .meets (h .table) (k .lists-of) (k .place-node) (h .state .vars) (h .state .log) (h .state .inv) (k .place-tree)) (place-good (k .place-tree) _ (h .state .inv)) under in
-    record { table = h .table; lists = k .lists-of; node = k .value-node; room = answer .room; state = after .0; tree = rw (after .1) (k .value-tree) }
-
-pub place-ended : {l m : List Words} {p v w at : ℕ} {s s′ : Words} → Assigned-answered l m p s w s′ → failed ≤ w → Evaluated l m p v s w at s′
-unfolding assign
-place-ended {l} {m} {p} {v} {w} {at} {s} {s′} answer over =
-    record { room = answer .room; meets = λ t vars log inv k pointer. go vars pointer _ (answer .meets t (k .lists-of) (k .place-node) vars log inv (k .place-tree)) }
-  where
-    go : (vars : ℕ) (pointer : Bool) {b e : ℕ} {o : Outcome Location} (f : Location → State → Outcome (Unit {0})) → Location-answers m w b e (word s′ 2) o
-        → Evaluates pointer vars m w at (word s′ 0) (word s′ 1) (word s′ 2) (bind o f)
-    go vars pointer f (answers-ok x log p q s small) = absurd (omega arith)
-    go vars pointer f (answers-failed x log h) = evaluates-failed x log h
-    go vars pointer f (answers-full log h) = evaluates-full log h
-
--- The value was worked out from the state that the place left.
-with-value : {vars r at b e u : ℕ} {m : List Words} {s₀ : State} {o : Outcome Datum} (pointer : Bool) (l : Location) → l .at ≡ at → Location-ok vars l s₀
-    → Datum-answers m r b e u o → Good vars (length (column m 0)) s₀ (Datum-ok vars) o → Evaluates pointer vars m r at b e u (bind o (assign-step pointer l))
-with-value pointer l hl place (answers-ok x log p q s small) (good-ok inv later fine) = to-store l x log hl p q s small inv (location-later (later .more) place) fine
-with-value pointer l hl place (answers-failed x log h) g = evaluates-failed x log h
-with-value pointer l hl place (answers-full log h) g = evaluates-full log h
-
-with-place : {vars w at b₁ e₁ r v : ℕ} {t : Words} {l m : List Words} {s₁ s′ : Words} {s₀ : State} {o : Outcome Location} (pointer : Bool) → Lists t l → v < count t nodes → Value-ok vars (value-of t v)
-    → w < failed → at ≡ w → Location-answers m w b₁ e₁ (word s₁ 2) o → Good vars (length (column m 0)) s₀ (Location-ok vars) o → Value-answered l m v s₁ r s′
-    → Evaluates pointer vars m r at (word s′ 0) (word s′ 1) (word s′ 2) (bind o (λ k s. bind (value-at (value-of t v) s) (assign-step pointer k)))
-with-place pointer ls node tree under ha (answers-ok k log p q s small) (good-ok inv later fine) value =
-    with-value pointer k (p ∙ sym ha) fine (value .meets _ ls node _ log inv tree) (value-good tree _ inv)
-with-place pointer ls node tree under ha (answers-failed x log h) g value = absurd (omega arith)
-with-place pointer ls node tree under ha (answers-full log h) g value = absurd (omega arith)
-
-pub evaluated : {l m : List Words} {p v w at r : ℕ} {s s₁ s′ : Words} → Assigned-answered l m p s w s₁ → w < failed → at ≡ w → Value-answered l m v s₁ r s′ → Evaluated l m p v s r at s′
-unfolding assign
-evaluated place under ha value =
-    record {
-      room = value .room;
-      meets = λ t vars log inv k pointer.
-          with-place pointer (k .lists-of) (k .value-node) (k .value-tree) under ha (place .meets t (k .lists-of) (k .place-node) vars log inv (k .place-tree)) (place-good (k .place-tree) _ inv) value;
-    }
+use Rattle.words.proofs.Columns.{put, put-same, put-other}
+use Rattle.semantics.specs.Words.{Words, word, if_then_else_}
+use Rattle.semantics.specs.Table.{is-pointer}
+use Rattle.semantics.specs.Syntax.{place-of, value-of}
+use Rattle.semantics.specs.Rules.{Datum, Location, Event, stored, State, noted, touchable, place-at, value-at, with-datum, assign-step, assign}
+use Rattle.semantics.proofs.Invariant.{Inv, Datum-ok, Location-ok, location-later}
+use Rattle.semantics.proofs.Steps.{place-good, value-good}
+use Rattle.steps.specs.Answers.{base-slot, end-slot, unused-slot, failed, state-of, Datum-is, Place-is, Answers, answers-ok}
+use Rattle.steps.proofs.Finish.{passed-on, touched}
+use Rattle.lookups.proofs.Lookups.{noted-type}
+use Rattle.evaluator.specs.Result.{Place-ready, Value-ready, Value-answered, Assigned-answered}
+use Rattle.evaluator.proofs.Evaluation.{Worked-out, worked-out}
+use Rattle.commands.specs.Command.{Command-nodes, Command-ready, Stored, Done-is, Command-answered}
 
 -- ---- the store
 
-pub stored-int : {p w v b e : ℕ} {vs bs es : Words} → p ≡ 0 → Stored p w v b e vs bs es (set vs w v) bs es
+pub stored-int : {p v b e : ℕ} (m : List (RefT (List ℕ))) (w : ℕ) → p ≡ 0 → Stored p w v b e (map (λ x. x .now) m) (map (λ x. x .now) (put m 0 w v))
 unfolding is-pointer
-stored-int h = record { values = refl; bases = rw h; ends = rw h }
+stored-int m w h = record { values = put-same m 0 w _; bases = rw h (put-other m 0 1 w _ (λ z. omega arith)); ends = rw h (put-other m 0 2 w _ (λ z. omega arith)) }
 
-pub stored-pointer : {p w v b e : ℕ} {vs bs es : Words} → (p ≡ 0 → ⊥) → Stored p w v b e vs bs es (set vs w v) (set bs w b) (set es w e)
+pub stored-pointer : {p v b e : ℕ} (m : List (RefT (List ℕ))) (w : ℕ) → (p ≡ 0 → ⊥)
+    → Stored p w v b e (map (λ x. x .now) m) (map (λ x. x .now) (put (put (put m 0 w v) 1 w b) 2 w e))
 unfolding is-pointer
-stored-pointer {p} h = let some = le-leb 1 p (omega (arith, h)) in record { values = refl; bases = rw some; ends = rw some }
+stored-pointer {p} {v} {b} {e} m w h =
+    let some = le-leb 1 p (omega (arith, h)) in
+    let m₁ = put m 0 w v in
+    let m₂ = put m₁ 1 w b in
+    record {
+      values = put-other m₂ 2 0 w e (λ z. omega arith) ∙ put-other m₁ 1 0 w b (λ z. omega arith) ∙ put-same m 0 w v;
+      bases = rw some (put-other m₂ 2 1 w e (λ z. omega arith) ∙ put-same m₁ 1 w b ∙ ap (λ l. set l w b) (put-other m 0 1 w v (λ z. omega arith)));
+      ends = rw some (put-same m₂ 2 w e ∙ ap (λ l. set l w e) (put-other m₁ 1 2 w b (λ z. omega arith) ∙ put-other m 0 2 w v (λ z. omega arith)));
+    }
 
 -- The lists that a store leaves are those of the rules.
-stored-state : {v b e : ℕ} {vs′ bs′ es′ : Words} (w u : ℕ) (vs bs es : Words) (x : Datum) (ev : Event) (log : List Event) (q : Bool) → x .value ≡ v → x .base ≡ b → x .end ≡ e
-    → vs′ ≡ set vs w v → bs′ ≡ (if q then set bs w b else bs) → es′ ≡ (if q then set es w e else es)
-    → noted ev (with-datum q w x (state-of (lists vs bs es) u log)) ≡ state-of (lists vs′ bs′ es′) u (ev ∷ log)
-stored-state w u vs bs es x ev log true hv hb he p q r = rw (hv, hb, he, p, q, r)
-stored-state w u vs bs es x ev log false hv hb he p q r = rw (hv, p, q, r)
+stored-state : {v b e : ℕ} (m m′ : List Words) (q : Bool) (w u : ℕ) (x : Datum) (ev : Event) (log : List Event) → x .value ≡ v → x .base ≡ b → x .end ≡ e
+    → column m′ 0 ≡ set (column m 0) w v → column m′ 1 ≡ (if q then set (column m 1) w b else column m 1) → column m′ 2 ≡ (if q then set (column m 2) w e else column m 2)
+    → noted ev (with-datum q w x (state-of m u log)) ≡ state-of m′ u (ev ∷ log)
+stored-state m m′ true w u x ev log hv hb he p q r = rw (hv, hb, he, p, q, r)
+stored-state m m′ false w u x ev log hv hb he p q r = rw (hv, p, q, r)
 
--- ---- the command
+-- ---- the place and the value
 
-pub command-ended : {l m : List Words} {p v r at : ℕ} {s s′ : Words} → Evaluated l m p v s r at s′ → failed ≤ r → Command-answered l m p v s r m s′
-command-ended {l} {m} {p} {v} {r} {at} {s} {s′} answer over = record { room = answer .room; meets = λ t vars log inv k. go (answer .meets t vars log inv k (is-pointer (node-type t v))) }
-  where
-    go : {pointer : Bool} {vars : ℕ} {o : Outcome (Unit {0})} → Evaluates pointer vars m r at (word s′ 0) (word s′ 1) (word s′ 2) o → Answers (λ x. 0) (λ x. 0) (λ x. 0) m r 0 0 (word s′ 2) o
-    go (to-store k x log hl hv hb he small inv place value) = absurd (omega arith)
-    go (evaluates-failed x log h) = answers-failed x log h
-    go (evaluates-full log h) = answers-full log h
+pub place-first : {l m : List Words} {p v : ℕ} {s : Words} → Command-ready l m p v s → Place-ready l m p s
+place-first h =
+    let k = h .nodes-are in record { table = h .table; lists = k .lists-of; node = k .place-node; room = h .room; state = h .state; tree = k .place-tree }
 
-pub store-inside : {l m : List Words} {p v r at : ℕ} {s s′ : Words} → Command-ready l m p v s → Evaluated l m p v s r at s′ → r < failed
-    → (at < length (column m 0)) × (at < length (column m 1)) × (at < length (column m 2))
-store-inside {m = m} {r = r} {at = at} {s′ = s′} h answer under = go (answer .meets (h .table) (h .state .vars) (h .state .log) (h .state .inv) (h .nodes-are) true)
-  where
-    go : {vars : ℕ} {o : Outcome (Unit {0})} → Evaluates true vars m r at (word s′ 0) (word s′ 1) (word s′ 2) o → (at < length (column m 0)) × (at < length (column m 1)) × (at < length (column m 2))
-    go (to-store k x log hl hv hb he small inv place value) =
-        omega (arith, permitted-used inv (place .permitted), inv .high, inv .values-length, inv .bases-length, inv .ends-length)
-    go (evaluates-failed x log q) = absurd (omega arith)
-    go (evaluates-full log q) = absurd (omega arith)
+module _ {l m m₁ : List Words} {p v at : ℕ} {s s₁ : Words} (place : Assigned-answered l m p s at m₁ s₁) where
+  pub place-ended : failed ≤ at → Command-answered l m p v s at m₁ s₁
+  unfolding assign
+  place-ended over =
+      record {
+        room = place .room;
+        meets = λ t vars log inv k.
+            passed-on {Ok = Location-ok} _ (place .room) over .meets vars _ _ _ (place .meets t (k .lists-of) (k .place-node) vars log inv (k .place-tree)) (place-good (k .place-tree) _ inv);
+      }
 
--- The type of the value, where the command's store looks it up.
-pub type-inside : {l m : List Words} {p v : ℕ} {s : Words} → Command-ready l m p v s → (v < 512) × (v < length (column l 1))
-type-inside h =
-    let k = h .nodes-are in
-    omega (arith, k .value-node, k .lists-of .type-room, section-ok (h .table) 4 (k .lists-of .passed .types .sections 4 (omega arith)) .limited)
+  module _ (under : at < failed) where
+    pub value-next : Command-ready l m p v s → Value-ready l m₁ v s₁
+    value-next h =
+        let k = h .nodes-are in
+        let w = worked-out (place .meets (h .table) (k .lists-of) (k .place-node) (h .state .vars) (h .state .log) (h .state .inv) (k .place-tree)) (place-good (k .place-tree) _ (h .state .inv)) under in
+        record {
+          table = h .table;
+          lists = k .lists-of;
+          node = k .value-node;
+          room = place .room;
+          state = record { vars = h .state .vars; log = w .log; inv = w .inv; most = omega (arith, w .long, h .state .most) };
+          tree = k .value-tree;
+        }
 
-pub command-done : {l : List Words} {vs bs es vs′ bs′ es′ : Words} {p v ty r at b e : ℕ} {s s′ : Words} → Evaluated l (lists vs bs es) p v s r at s′ → r < failed → ty ≡ word (column l 1) v
-    → b ≡ word s′ 0 → e ≡ word s′ 1 → Stored ty at r b e vs bs es vs′ bs′ es′ → Command-answered l (lists vs bs es) p v s 0 (lists vs′ bs′ es′) s′
-unfolding assign-step touchable
-command-done {l} {vs} {bs} {es} {vs′} {bs′} {es′} {p} {v} {ty} {r} {at} {b} {e} {s} {s′} answer under ht hb₀ he₀ st =
-    record { room = answer .room; meets = λ t vars log inv k. go (ht ∙ k .lists-of .type-is v (k .value-node) (k .value-sort)) (answer .meets t vars log inv k (is-pointer (node-type t v))) }
-  where
-    u′ : ℕ
-    u′ = word s′ 2
+    module _ {m₂ : List Words} {r : ℕ} {s₂ : Words} (value : Value-answered l m₁ v s₁ r m₂ s₂) where
+      pub value-ended : failed ≤ r → Command-answered l m p v s r m₂ s₂
+      unfolding assign
+      value-ended over =
+          record {
+            room = value .room;
+            meets = λ t vars log inv k.
+                let w = worked-out (place .meets t (k .lists-of) (k .place-node) vars log inv (k .place-tree)) (place-good (k .place-tree) _ inv) under in
+                rw (w .outcome)
+                (passed-on {Ok = Datum-ok} _ (value .room) over .meets vars _ _ _ (value .meets t (k .lists-of) (k .value-node) vars (w .log) (w .inv) (k .value-tree)) (value-good (k .value-tree) _ (w .inv)));
+          }
 
-    stores : {vars ty′ : ℕ} (k : Location) (x : Datum) (log : List Event) → ty ≡ ty′ → k .at ≡ at → x .value ≡ r → x .base ≡ word s′ 0 → x .end ≡ word s′ 1
-        → Inv vars (length vs) (state-of (lists vs bs es) u′ log) → Location-ok vars k (state-of (lists vs bs es) u′ log)
-        → Answers (λ x. 0) (λ x. 0) (λ x. 0) (lists vs′ bs′ es′) 0 0 0 u′ (assign-step (is-pointer ty′) k x (state-of (lists vs bs es) u′ log))
-    stores k x log same hl hv hb he inv place =
-        let used = permitted-used inv (place .permitted) in
-        rw (← same, hl, lt-ltb 0 at (omega (arith, used)), lt-ltb at u′ (omega (arith, used)), stored-state at u′ vs bs es x (stored at (k .access)) log (is-pointer ty) hv (hb ∙ sym hb₀) (he ∙ sym he₀) (st .values) (st .bases) (st .ends))
-        (answers-ok tt _ refl refl refl (omega arith))
+      -- The place and the value were worked out: how the command stands before its store.
+      module _ (small : r < failed) {t : Words} {vars : ℕ} {log : List Event} (inv : Inv vars (length (column m 0)) (state-of m (word s unused-slot) log)) (k : Command-nodes t l p v vars) where
+        first : Worked-out Place-is (Location-ok vars) vars (length (column m 0)) m₁ at s₁ (state-of m (word s unused-slot) log) (place-at (place-of t p) (state-of m (word s unused-slot) log))
+        first = worked-out (place .meets t (k .lists-of) (k .place-node) vars log inv (k .place-tree)) (place-good (k .place-tree) _ inv) under
 
-    go : {vars ty′ : ℕ} {o : Outcome (Unit {0})} → ty ≡ ty′ → Evaluates (is-pointer ty′) vars (lists vs bs es) r at (word s′ 0) (word s′ 1) u′ o → Answers (λ x. 0) (λ x. 0) (λ x. 0) (lists vs′ bs′ es′) 0 0 0 u′ o
-    go same (to-store k x log hl hv hb he small inv place value) = stores k x log same hl hv hb he inv place
-    go same (evaluates-failed x log q) = absurd (omega arith)
-    go same (evaluates-full log q) = absurd (omega arith)
+        abbrev between : State
+        between = state-of m₁ (word s₁ unused-slot) (first .log)
+
+        second : Worked-out Datum-is (Datum-ok vars) vars (length (column m₁ 0)) m₂ r s₂ between (value-at (value-of t v) between)
+        second = worked-out (value .meets t (k .lists-of) (k .value-node) vars (first .log) (first .inv) (k .value-tree)) (value-good (k .value-tree) _ (first .inv)) small
+
+        still : Location-ok vars (first .result) (state-of m₂ (word s₂ unused-slot) (second .log))
+        still = location-later (second .later .more) (first .fine)
+
+      -- The word that is stored to lies in all three lists.
+      pub store-inside : Command-ready l m p v s → r < failed → (at < 2 ^ 32) × (at < length (column m₂ 0)) × (at < length (column m₂ 1)) × (at < length (column m₂ 2))
+      store-inside h small =
+          let k = h .nodes-are in
+          omega (arith, touched (second small (h .state .inv) k .inv) (still small (h .state .inv) k) (first small (h .state .inv) k .is .at))
+
+      pub command-done : {m₃ : List Words} {ty b e : ℕ} → r < failed → ty ≡ word (column l 1) v % 128 → b ≡ word s₂ base-slot → e ≡ word s₂ end-slot → Stored ty at r b e m₂ m₃
+          → Command-answered l m p v s 0 m₃ s₂
+      unfolding assign assign-step touchable
+      command-done {m₃} {ty} {b} {e} small ht hb he st =
+          record {
+            room = value .room;
+            meets = λ t vars log inv k.
+                let one = first small inv k in
+                let two = second small inv k in
+                rw (one .outcome, two .outcome) (stores (one .result) (two .result) (two .log) (noted-type (k .lists-of) (k .value-node) ht .0) (one .is .at) (two .is) (two .inv) (still small inv k));
+          }
+        where
+          stores : {vars len ty′ : ℕ} (x : Location) (d : Datum) (log : List Event) → ty ≡ ty′ → x .at ≡ at → Datum-is d r s₂ → Inv vars len (state-of m₂ (word s₂ unused-slot) log)
+              → Location-ok vars x (state-of m₂ (word s₂ unused-slot) log) → Answers Done-is m₃ 0 s₂ (assign-step (is-pointer ty′) x d (state-of m₂ (word s₂ unused-slot) log))
+          stores x d log same hx hd inv fine =
+              let t = touched inv fine hx in
+              rw (← same, hx, lt-ltb 0 at (t .0), lt-ltb at (word s₂ unused-slot) (t .1), stored-state m₂ m₃ (is-pointer ty) at (word s₂ unused-slot) d (stored at (x .access)) log (hd .value) (hd .base ∙ sym hb) (hd .end ∙ sym he) (st .values) (st .bases) (st .ends))
+              (answers-ok tt _ (record { zero = refl }) (omega arith))

@@ -16,24 +16,26 @@ use Rattle.semantics.proofs.Invariant.{Inv}
 use Rattle.semantics.proofs.Passed.{Passed, section-ok, section-end}
 use Rattle.semantics.proofs.Trees.{command-ok}
 use Rattle.semantics.proofs.Safety.{commands-ok}
-use Rattle.steps.specs.Answers.{failed, state-of, Answers, answers-ok, answers-failed, answers-full}
-use Rattle.commands.specs.Command.{lists, Command-nodes, Command-ready, Command-answered}
+use Rattle.words.specs.Columns.{column}
+use Rattle.evaluator.proofs.Evaluation.{own-length}
+use Rattle.steps.specs.Answers.{slots, unused-slot, failed, state-of, Answers, answers-ok, answers-failed, answers-full}
+use Rattle.commands.specs.Command.{Command-nodes, Command-ready, Command-answered, Done-is}
 use Rattle.commands.specs.Execution.{ended-of, Starts, Executable, Ends, Executed}
 use Rattle.commands.specs.declared.Ended.{Ended}
 use Rattle.commands.specs.declared.Ended.the-variants.{Done, Abort, NoRoom}
 
 -- The commands below c, run from s, are done and leave these lists and this U.
-pub record Reached (t : Words) (s : State) (vs bs es : Words) (u c : ℕ) : Type 0 where
+pub record Reached (t : Words) (s : State) (m : List Words) (u c : ℕ) : Type 0 where
   pub log : List Event
-  pub runs : commands-below t c s ≡ ended done (state-of (lists vs bs es) u log)
+  pub runs : commands-below t c s ≡ ended done (state-of m u log)
 
 -- The same of the state that a run begins with, whatever its log.
-pub record So-far (t vs₀ bs₀ es₀ : Words) (u₀ : ℕ) (vs bs es : Words) (u c : ℕ) : Type 0 where
-  pub reached : (log : List Event) → Starts t vs₀ bs₀ es₀ u₀ log → Reached t (state-of (lists vs₀ bs₀ es₀) u₀ log) vs bs es u c
+pub record So-far (t : Words) (m₀ : List Words) (u₀ : ℕ) (m : List Words) (u c : ℕ) : Type 0 where
+  pub reached : (log : List Event) → Starts t m₀ u₀ log → Reached t (state-of m₀ u₀ log) m u c
 
-pub none-yet : (t vs bs es : Words) (u : ℕ) → So-far t vs bs es u vs bs es u 0
+pub none-yet : (t : Words) (m : List Words) (u : ℕ) → So-far t m u m u 0
 unfolding commands-below
-none-yet t vs bs es u = record { reached = λ log inv. record { log = log; runs = refl } }
+none-yet t m u = record { reached = λ log inv. record { log = log; runs = refl } }
 
 -- A run that has ended stays so.
 then-ended : (t : Words) (c : ℕ) (e : Ending) (s : State) → (e ≡ done → ⊥) → then-command t c e s ≡ ended e s
@@ -55,16 +57,16 @@ ended-stays t s c (suc n) e s′ h other less = go (ℕ-discrete c (suc n)) (end
     go (no q) below = rw (below (omega arith)) (then-ended t n e s′ other)
 
 -- A run that ended is what was answered.
-executed : (t : Words) (s : State) {vs bs es : Words} {u : ℕ} (e : Ending) (log : List Event) (r : Ended) → ended-of r ≡ ending e u
-    → commands-below t (count t commands) s ≡ ended e (state-of (lists vs bs es) u log) → Ends (result-of (commands-below t (count t commands) s)) r vs bs es
+executed : (t : Words) (s : State) {m : List Words} {u : ℕ} (e : Ending) (log : List Event) (r : Ended) → ended-of r ≡ ending e u
+    → commands-below t (count t commands) s ≡ ended e (state-of m u log) → Ends (result-of (commands-below t (count t commands) s)) r m
 executed t s e log r h runs = rw runs (record { answer = h; values = refl; bases = refl; ends = refl })
 
 -- All commands are done.
-pub all-done : {t vs₀ bs₀ es₀ : Words} {u₀ : ℕ} {vs bs es : Words} {u c : ℕ} → So-far t vs₀ bs₀ es₀ u₀ vs bs es u c → c ≡ count t commands
-    → Executed t vs₀ bs₀ es₀ u₀ (Done u) vs bs es
+pub all-done : {t : Words} {m₀ : List Words} {u₀ : ℕ} {m : List Words} {u c : ℕ} → So-far t m₀ u₀ m u c → c ≡ count t commands
+    → Executed t m₀ u₀ (Done u) m
 all-done far h = record { meets = λ log inv. let here = far .reached log inv in executed _ _ done (here .log) (Done _) refl (rw h at (here .runs)) }
 
-module _ {t : Words} {l : List Words} {vs₀ bs₀ es₀ : Words} {at total u₀ : ℕ} (x : Executable t l at total u₀ vs₀ bs₀ es₀) where
+module _ {t : Words} {l m₀ : List Words} {at total u₀ : ℕ} (x : Executable t l at total u₀ m₀) where
   ok : Passed t
   ok = x .lists-of .passed
 
@@ -76,17 +78,17 @@ module _ {t : Words} {l : List Words} {vs₀ bs₀ es₀ : Words} {at total u₀
       let f : count-place t 5 + 1 + 2 * c + 1 ≡ at + 2 * c + 1 = omega (arith, x .first) in
       (ap (word t) e, ap (word t) f, omega (arith, section-ok t 5 (ok .types .sections 5 (omega arith)) .extent, section-end t 5, x .first, x .all))
 
-  module _ {vs bs es : Words} (s : Words) {c : ℕ} (far : So-far t vs₀ bs₀ es₀ u₀ vs bs es (word s 2) c) (room : length s ≡ 3) (less : c < total) where
+  module _ {m : List Words} (s : Words) {c : ℕ} (far : So-far t m₀ u₀ m (word s unused-slot) c) (room : length s ≡ slots) (less : c < total) where
     -- The state that command c is run from, after a begin with this log.
-    module _ {log : List Event} (inv : Starts t vs₀ bs₀ es₀ u₀ log) where
+    module _ {log : List Event} (inv : Starts t m₀ u₀ log) where
       abbrev log-here : List Event
       log-here = far .reached log inv .log
 
-      state-inv : Inv (count t variables) (length vs₀) (state-of (lists vs bs es) (word s 2) log-here)
-      state-inv = rw (far .reached log inv .runs) at (commands-ok ok (state-of (lists vs₀ bs₀ es₀) u₀ log) inv c (omega (arith, x .all))) .inv
+      state-inv : Inv (count t variables) (length (column m₀ 0)) (state-of m (word s unused-slot) log-here)
+      state-inv = rw (far .reached log inv .runs) at (commands-ok ok (state-of m₀ u₀ log) inv c (omega (arith, x .all))) .inv
 
-      same-inv : Inv (count t variables) (length vs) (state-of (lists vs bs es) (word s 2) log-here)
-      same-inv = rw (sym (state-inv .values-length)) at state-inv
+      same-inv : Inv (count t variables) (length (column m 0)) (state-of m (word s unused-slot) log-here)
+      same-inv = own-length state-inv
 
     module _ {p v : ℕ} (hp : p ≡ word t (at + 2 * c)) (hv : v ≡ word t (at + 2 * c + 1)) where
       place-is : p ≡ command-place t c
@@ -104,10 +106,9 @@ module _ {t : Words} {l : List Words} {vs₀ bs₀ es₀ : Words} {at total u₀
             value-node = rw value-is (k .value-node);
             place-tree = rw place-is (k .place-tree);
             value-tree = rw value-is (k .value-tree);
-            value-sort = rw value-is (k .value-sort);
           }
 
-      pub command-ready : Command-ready l (lists vs bs es) p v s
+      pub command-ready : Command-ready l m p v s
       command-ready =
           record {
             table = t;
@@ -116,51 +117,51 @@ module _ {t : Words} {l : List Words} {vs₀ bs₀ es₀ : Words} {at total u₀
             nodes-are = command-nodes;
           }
 
-      module _ {r : ℕ} {vs′ bs′ es′ s′ : Words} (answer : Command-answered l (lists vs bs es) p v s r (lists vs′ bs′ es′) s′) where
-        module _ {log : List Event} (inv : Starts t vs₀ bs₀ es₀ u₀ log) where
+      module _ {r : ℕ} {m′ : List Words} {s′ : Words} (answer : Command-answered l m p v s r m′ s′) where
+        module _ {log : List Event} (inv : Starts t m₀ u₀ log) where
           -- The outcome of command c.
           abbrev result : Outcome (Unit {0})
-          result = assign (is-pointer (node-type t v)) (place-of t p) (value-of t v) (state-of (lists vs bs es) (word s 2) (log-here inv))
+          result = assign (is-pointer (node-type t v)) (place-of t p) (value-of t v) (state-of m (word s unused-slot) (log-here inv))
 
-          this-command : commands-below t (suc c) (state-of (lists vs₀ bs₀ es₀) u₀ log) ≡ after-command c result
+          this-command : commands-below t (suc c) (state-of m₀ u₀ log) ≡ after-command c result
           unfolding commands-below command
           this-command = rw (far .reached log inv .runs, command-ok ok c (omega (arith, x .all)) .same-type, place-is, value-is)
 
           -- What was answered for it.
-          outcome : Answers (λ y. 0) (λ y. 0) (λ y. 0) (lists vs′ bs′ es′) r 0 0 (word s′ 2) result
+          outcome : Answers Done-is m′ r s′ result
           outcome = answer .meets t (count t variables) (log-here inv) (same-inv inv) command-nodes
 
           -- The run has ended at this command.
-          ended-here : (e : Ending) (a : Ended) (log′ : List Event) → (e ≡ done → ⊥) → ended-of a ≡ ending e (word s′ 2)
-              → commands-below t (suc c) (state-of (lists vs₀ bs₀ es₀) u₀ log) ≡ ended e (state-of (lists vs′ bs′ es′) (word s′ 2) log′)
-              → Ends (result-of (commands-below t (count t commands) (state-of (lists vs₀ bs₀ es₀) u₀ log))) a vs′ bs′ es′
+          ended-here : (e : Ending) (a : Ended) (log′ : List Event) → (e ≡ done → ⊥) → ended-of a ≡ ending e (word s′ unused-slot)
+              → commands-below t (suc c) (state-of m₀ u₀ log) ≡ ended e (state-of m′ (word s′ unused-slot) log′)
+              → Ends (result-of (commands-below t (count t commands) (state-of m₀ u₀ log))) a m′
           ended-here e a log′ other h runs = executed t _ e log′ a h (ended-stays t _ (suc c) (count t commands) e _ runs other (omega (arith, x .all)))
 
-        pub command-goes-on : r < failed → So-far t vs₀ bs₀ es₀ u₀ vs′ bs′ es′ (word s′ 2) (c + 1)
+        pub command-goes-on : r < failed → So-far t m₀ u₀ m′ (word s′ unused-slot) (c + 1)
         command-goes-on under = record { reached = λ log inv. go log (outcome inv) (this-command inv) }
           where
-            go : (log : List Event) {o : Outcome (Unit {0})} → Answers (λ y. 0) (λ y. 0) (λ y. 0) (lists vs′ bs′ es′) r 0 0 (word s′ 2) o
-                → commands-below t (suc c) (state-of (lists vs₀ bs₀ es₀) u₀ log) ≡ after-command c o → Reached t (state-of (lists vs₀ bs₀ es₀) u₀ log) vs′ bs′ es′ (word s′ 2) (c + 1)
-            go log (answers-ok y log′ i j k small) runs = record { log = log′; runs = rw (add-one c) runs }
-            go log (answers-failed y log′ i) runs = absurd (omega arith)
+            go : (log : List Event) {o : Outcome (Unit {0})} → Answers Done-is m′ r s′ o
+                → commands-below t (suc c) (state-of m₀ u₀ log) ≡ after-command c o → Reached t (state-of m₀ u₀ log) m′ (word s′ unused-slot) (c + 1)
+            go log (answers-ok y log′ i small) runs = record { log = log′; runs = rw (add-one c) runs }
+            go log (answers-failed log′ i) runs = absurd (omega arith)
             go log (answers-full log′ i) runs = absurd (omega arith)
 
-        pub command-aborts : r ≡ failed → Executed t vs₀ bs₀ es₀ u₀ (Abort c (word s′ 2)) vs′ bs′ es′
+        pub command-aborts : r ≡ failed → Executed t m₀ u₀ (Abort c (word s′ unused-slot)) m′
         command-aborts h = record { meets = λ log inv. go inv (outcome inv) (this-command inv) }
           where
-            go : {log : List Event} (inv : Starts t vs₀ bs₀ es₀ u₀ log) {o : Outcome (Unit {0})} → Answers (λ y. 0) (λ y. 0) (λ y. 0) (lists vs′ bs′ es′) r 0 0 (word s′ 2) o
-                → commands-below t (suc c) (state-of (lists vs₀ bs₀ es₀) u₀ log) ≡ after-command c o
-                → Ends (result-of (commands-below t (count t commands) (state-of (lists vs₀ bs₀ es₀) u₀ log))) (Abort c (word s′ 2)) vs′ bs′ es′
-            go inv (answers-ok y log′ i j k small) runs = absurd (omega arith)
-            go inv (answers-failed y log′ i) runs = ended-here inv (abort c) (Abort c (word s′ 2)) log′ (λ q. let z : _≡_ {A = ℕ} 0 1 = cc in omega arith) refl runs
+            go : {log : List Event} (inv : Starts t m₀ u₀ log) {o : Outcome (Unit {0})} → Answers Done-is m′ r s′ o
+                → commands-below t (suc c) (state-of m₀ u₀ log) ≡ after-command c o
+                → Ends (result-of (commands-below t (count t commands) (state-of m₀ u₀ log))) (Abort c (word s′ unused-slot)) m′
+            go inv (answers-ok y log′ i small) runs = absurd (omega arith)
+            go inv (answers-failed log′ i) runs = ended-here inv (abort c) (Abort c (word s′ unused-slot)) log′ (λ q. let z : _≡_ {A = ℕ} 0 1 = cc in omega arith) refl runs
             go inv (answers-full log′ i) runs = absurd (omega arith)
 
-        pub command-full : failed < r → Executed t vs₀ bs₀ es₀ u₀ (NoRoom c (word s′ 2)) vs′ bs′ es′
+        pub command-full : failed < r → Executed t m₀ u₀ (NoRoom c (word s′ unused-slot)) m′
         command-full h = record { meets = λ log inv. go inv (outcome inv) (this-command inv) }
           where
-            go : {log : List Event} (inv : Starts t vs₀ bs₀ es₀ u₀ log) {o : Outcome (Unit {0})} → Answers (λ y. 0) (λ y. 0) (λ y. 0) (lists vs′ bs′ es′) r 0 0 (word s′ 2) o
-                → commands-below t (suc c) (state-of (lists vs₀ bs₀ es₀) u₀ log) ≡ after-command c o
-                → Ends (result-of (commands-below t (count t commands) (state-of (lists vs₀ bs₀ es₀) u₀ log))) (NoRoom c (word s′ 2)) vs′ bs′ es′
-            go inv (answers-ok y log′ i j k small) runs = absurd (omega arith)
-            go inv (answers-failed y log′ i) runs = absurd (omega arith)
-            go inv (answers-full log′ i) runs = ended-here inv (out-of-memory c) (NoRoom c (word s′ 2)) log′ (λ q. let z : _≡_ {A = ℕ} 0 1 = cc in omega arith) refl runs
+            go : {log : List Event} (inv : Starts t m₀ u₀ log) {o : Outcome (Unit {0})} → Answers Done-is m′ r s′ o
+                → commands-below t (suc c) (state-of m₀ u₀ log) ≡ after-command c o
+                → Ends (result-of (commands-below t (count t commands) (state-of m₀ u₀ log))) (NoRoom c (word s′ unused-slot)) m′
+            go inv (answers-ok y log′ i small) runs = absurd (omega arith)
+            go inv (answers-failed log′ i) runs = absurd (omega arith)
+            go inv (answers-full log′ i) runs = ended-here inv (out-of-memory c) (NoRoom c (word s′ unused-slot)) log′ (λ q. let z : _≡_ {A = ℕ} 0 1 = cc in omega arith) refl runs

@@ -10,8 +10,8 @@ use Rattle.semantics.specs.Run as semantics
 use Rattle.semantics.specs.Run.{ending, done, abort, out-of-memory, Result, result-of, commands-below}
 use Rattle.semantics.proofs.Invariant.{Inv}
 use Rattle.lookups.specs.Lists.{Lists}
+use Rattle.words.specs.Columns.{column}
 use Rattle.steps.specs.Answers.{state-of}
-use Rattle.commands.specs.Command.{lists}
 use Rattle.commands.specs.declared.Ended.{Ended}
 use Rattle.commands.specs.declared.Ended.the-variants.{Done, Abort, NoRoom}
 
@@ -21,26 +21,26 @@ ended-of (Done u) = ending done u
 ended-of (Abort c u) = ending (abort c) u
 ended-of (NoRoom c u) = ending (out-of-memory c) u
 
--- The three lists and U are a state that a run of the table can begin with, if the rules have this log there.
-abbrev pub Starts : Words → Words → Words → Words → ℕ → List Event → Type 0
-Starts t vs bs es u log = Inv (count t variables) (length vs) (state-of (lists vs bs es) u log)
+-- The memory and U are a state that a run of the table can begin with, if the rules have this log there.
+abbrev pub Starts : Words → List Words → ℕ → List Event → Type 0
+Starts t m u log = Inv (count t variables) (length (column m 0)) (state-of m u log)
 
--- The commands stand at `at`, l are the table's lists, and the three lists hold a state that a run of the table can begin with.
-pub record Executable (t : Words) (l : List Words) (at total u : ℕ) (vs bs es : Words) : Type 0 where
+-- The commands stand at `at`, l are the table's lists, and the memory holds a state that a run of the table can begin with.
+pub record Executable (t : Words) (l : List Words) (at total u : ℕ) (m : List Words) : Type 0 where
   pub lists-of : Lists t l
   pub first : at ≡ count-place t commands + 1
   pub all : total ≡ count t commands
   pub log : List Event
-  pub inv : Starts t vs bs es u log
-  pub most : length vs ≤ 65536
+  pub inv : Starts t m u log
+  pub most : length (column m 0) ≤ 65536
 
--- An ending and three lists are the result of a run.
-pub record Ends (result : Result) (r : Ended) (vs bs es : Words) : Type 0 where
+-- An ending and the memory are the result of a run.
+pub record Ends (result : Result) (r : Ended) (m : List Words) : Type 0 where
   pub answer : ended-of r ≡ result .answer
-  pub values : vs ≡ result .values
-  pub bases : bs ≡ result .bases
-  pub ends : es ≡ result .ends
+  pub values : column m 0 ≡ result .values
+  pub bases : column m 1 ≡ result .bases
+  pub ends : column m 2 ≡ result .ends
 
--- The commands were run from these lists and this U, and ended so, whatever the log at the start.
-pub record Executed (t vs bs es : Words) (u : ℕ) (r : Ended) (vs′ bs′ es′ : Words) : Type 0 where
-  pub meets : (log : List Event) → Starts t vs bs es u log → Ends (result-of (commands-below t (count t commands) (state-of (lists vs bs es) u log))) r vs′ bs′ es′
+-- The commands were run from this memory and this U, and ended so, whatever the log at the start.
+pub record Executed (t : Words) (m : List Words) (u : ℕ) (r : Ended) (m′ : List Words) : Type 0 where
+  pub meets : (log : List Event) → Starts t m u log → Ends (result-of (commands-below t (count t commands) (state-of m u log))) r m′

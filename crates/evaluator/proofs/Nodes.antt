@@ -2,7 +2,6 @@
 use Prim.Native.Nat.{ℕ, zero, suc, _≤_, _<_}
 use mathlib.Core.Bool.{Bool, _&&_}
 use mathlib.Core.Path.{_≡_, refl, ap, ap₂, _∙_}
-use mathlib.Core.List.{List}
 use native.Mathlib.Omega.{arith}
 use native.Mathlib.Decide.{decLt}
 use lib.ListN.{getD, List·getD-eq-default}
@@ -72,21 +71,18 @@ pub value-kind : {vars : ℕ} (t : Words) (n : ℕ) → Value-ok vars (value-of 
 unfolding value-of tree-of tree-rule node-kind
 value-kind t n h = rw (value-sort t n _ _ (λ x. getD (trees-below t n) x senseless) (kind-of (item t nodes n 0)) h) at (kind-range (item t nodes n 0))
 
+pub place-node : {vars : ℕ} (t : Words) (n : ℕ) → Place-ok vars (place-of t n) → sort-of (node-kind t n) ≡ Table.place
+unfolding place-of tree-of tree-rule
+place-node t n h = place-sort t n _ _ (λ x. getD (trees-below t n) x senseless) (node-kind t n) h
+
 pub value-node : {vars : ℕ} (t : Words) (n : ℕ) → Value-ok vars (value-of t n) → sort-of (node-kind t n) ≡ Table.value
 unfolding value-of tree-of tree-rule
 value-node t n h = value-sort t n _ _ (λ x. getD (trees-below t n) x senseless) (node-kind t n) h
 
-pub field-kind : (t : Words) (n : ℕ) → item t nodes n 0 ≡ 3 → node-kind t n ≡ field
-unfolding node-kind kind-of
-field-kind t n k = rw k
-
-pub size-kind : (t : Words) (n : ℕ) → item t nodes n 0 ≡ 9 → node-kind t n ≡ size
-unfolding node-kind kind-of
-size-kind t n k = rw k
-
-pub read-kind : (t : Words) (n : ℕ) → item t nodes n 0 ≡ 6 → node-kind t n ≡ read
-unfolding node-kind kind-of
-read-kind t n k = rw k
+-- A kind by its number.
+pub kind-number : (t : Words) (n : ℕ) {x : ℕ} → item t nodes n 0 ≡ x → node-kind t n ≡ kind-of x
+unfolding node-kind
+kind-number t n e = ap kind-of e
 
 -- ---- children
 
@@ -137,12 +133,12 @@ with-place : {vars : ℕ} {B : Type 0} (Ok : B → Type 0) (F : Place → B) (t 
     → ((p : Place) → Ok (F p) → Place-ok vars p) → Ok b → Place-child vars t n x × (b ≡ F (place-of t x))
 with-place Ok F t n x e inner h = let ch = place-child t n x (inner _ (rw e at h)) in (ch, e ∙ ap F (ch .same))
 
-pub constant-node : (t : Words) (n : ℕ) → item t nodes n 0 ≡ 4 → value-of t n ≡ Number n (node-a t n)
-unfolding value-of tree-of tree-rule node-kind kind-of
+pub constant-node : (t : Words) (n : ℕ) → node-kind t n ≡ constant → value-of t n ≡ Number n (node-a t n)
+unfolding value-of tree-of tree-rule
 constant-node t n k = rw k
 
-pub size-node : (t : Words) (n : ℕ) → item t nodes n 0 ≡ 9 → value-of t n ≡ Number n (size-of t (node-a t n))
-unfolding value-of tree-of tree-rule node-kind kind-of
+pub size-node : (t : Words) (n : ℕ) → node-kind t n ≡ size → value-of t n ≡ Number n (size-of t (node-a t n))
+unfolding value-of tree-of tree-rule
 size-node t n k = rw k
 
 -- A field's offset and its words, a sum's step, and whether a cast keeps bounds.
@@ -159,32 +155,32 @@ abbrev pub cast-keeps : Words → ℕ → Bool
 cast-keeps t n = is-pointer (node-type t (node-a t n)) && is-pointer (node-b t n)
 
 module _ {vars : ℕ} (t : Words) (n : ℕ) where
-  pub variable-node : item t nodes n 0 ≡ 1 → Place-ok vars (place-of t n) → (node-a t n < vars) × (place-of t n ≡ Variable n (node-a t n))
-  unfolding place-of tree-of tree-rule node-kind kind-of
+  pub variable-node : node-kind t n ≡ variable → Place-ok vars (place-of t n) → (node-a t n < vars) × (place-of t n ≡ Variable n (node-a t n))
+  unfolding place-of tree-of tree-rule
   variable-node k h = let e : place-of t n ≡ Variable n (node-a t n) = rw k in (number (rw e at h), e)
     where
       number : {i : ℕ} → Place-ok vars (Variable n i) → i < vars
       number (variable-ok l) = l
 
-  pub deref-node : item t nodes n 0 ≡ 2 → Place-ok vars (place-of t n) → Value-child vars t n (node-a t n) × (place-of t n ≡ Deref n (value-of t (node-a t n)))
-  unfolding place-of tree-of tree-rule node-kind kind-of
+  pub deref-node : node-kind t n ≡ deref → Place-ok vars (place-of t n) → Value-child vars t n (node-a t n) × (place-of t n ≡ Deref n (value-of t (node-a t n)))
+  unfolding place-of tree-of tree-rule
   deref-node k h = with-value (Place-ok vars) (Deref n) t n (node-a t n) (rw k) inner h
     where
       inner : (v : Value) → Place-ok vars (Deref n v) → Value-ok vars v
       inner v (deref-ok ok) = ok
 
-  pub field-node : item t nodes n 0 ≡ 3 → Place-ok vars (place-of t n)
+  pub field-node : node-kind t n ≡ field → Place-ok vars (place-of t n)
       → Value-child vars t n (node-a t n) × (place-of t n ≡ Field n (offset-of t n) (count-of t n) (value-of t (node-a t n)))
-  unfolding place-of tree-of tree-rule node-kind kind-of
+  unfolding place-of tree-of tree-rule
   field-node k h = with-value (Place-ok vars) (Field n (offset-of t n) (count-of t n)) t n (node-a t n) (rw k) inner h
     where
       inner : (v : Value) → Place-ok vars (Field n (offset-of t n) (count-of t n) v) → Value-ok vars v
       inner v (field-ok some ok) = ok
 
-  pub sum-node : item t nodes n 0 ≡ 5 → Value-ok vars (value-of t n)
+  pub sum-node : node-kind t n ≡ sum → Value-ok vars (value-of t n)
       → Value-child vars t n (node-a t n) × Value-child vars t n (node-b t n)
       × (value-of t n ≡ Sum n (moves-by t n) (value-of t (node-a t n)) (value-of t (node-b t n)))
-  unfolding value-of tree-of tree-rule node-kind kind-of
+  unfolding value-of tree-of tree-rule
   sum-node k h =
       let e : value-of t n ≡ Sum n (moves-by t n) (as-value (getD (trees-below t n) (node-a t n) senseless)) (as-value (getD (trees-below t n) (node-b t n) senseless)) = rw k in
       let l = value-child t n (node-a t n) (left (rw e at h)) in
@@ -197,31 +193,31 @@ module _ {vars : ℕ} (t : Words) (n : ℕ) where
       right : {step : ℕ} {v w : Value} → Value-ok vars (Sum n step v w) → Value-ok vars w
       right (sum-ok v w) = w
 
-  pub read-node : item t nodes n 0 ≡ 6 → Value-ok vars (value-of t n)
+  pub read-node : node-kind t n ≡ read → Value-ok vars (value-of t n)
       → Place-child vars t n (node-a t n) × (value-of t n ≡ Read n (is-pointer (node-type t n)) (place-of t (node-a t n)))
-  unfolding value-of tree-of tree-rule node-kind kind-of
+  unfolding value-of tree-of tree-rule
   read-node k h = with-place (Value-ok vars) (Read n (is-pointer (node-type t n))) t n (node-a t n) (rw k) inner h
     where
       inner : (p : Place) → Value-ok vars (Read n (is-pointer (node-type t n)) p) → Place-ok vars p
       inner p (read-ok ok) = ok
 
-  pub address-node : item t nodes n 0 ≡ 7 → Value-ok vars (value-of t n) → Place-child vars t n (node-a t n) × (value-of t n ≡ Address n (place-of t (node-a t n)))
-  unfolding value-of tree-of tree-rule node-kind kind-of
+  pub address-node : node-kind t n ≡ address → Value-ok vars (value-of t n) → Place-child vars t n (node-a t n) × (value-of t n ≡ Address n (place-of t (node-a t n)))
+  unfolding value-of tree-of tree-rule
   address-node k h = with-place (Value-ok vars) (Address n) t n (node-a t n) (rw k) inner h
     where
       inner : (p : Place) → Value-ok vars (Address n p) → Place-ok vars p
       inner p (address-ok ok) = ok
 
-  pub cast-node : item t nodes n 0 ≡ 8 → Value-ok vars (value-of t n)
+  pub cast-node : node-kind t n ≡ cast → Value-ok vars (value-of t n)
       → Value-child vars t n (node-a t n) × (value-of t n ≡ Cast n (cast-keeps t n) (value-of t (node-a t n)))
-  unfolding value-of tree-of tree-rule node-kind kind-of
+  unfolding value-of tree-of tree-rule
   cast-node k h = with-value (Value-ok vars) (Cast n (cast-keeps t n)) t n (node-a t n) (rw k) inner h
     where
       inner : (v : Value) → Value-ok vars (Cast n (cast-keeps t n) v) → Value-ok vars v
       inner v (cast-ok ok) = ok
 
-  pub malloc-node : item t nodes n 0 ≡ 10 → Value-ok vars (value-of t n) → Value-child vars t n (node-a t n) × (value-of t n ≡ Malloc n (value-of t (node-a t n)))
-  unfolding value-of tree-of tree-rule node-kind kind-of
+  pub malloc-node : node-kind t n ≡ malloc → Value-ok vars (value-of t n) → Value-child vars t n (node-a t n) × (value-of t n ≡ Malloc n (value-of t (node-a t n)))
+  unfolding value-of tree-of tree-rule
   malloc-node k h = with-value (Value-ok vars) (Malloc n) t n (node-a t n) (rw k) inner h
     where
       inner : (v : Value) → Value-ok vars (Malloc n v) → Value-ok vars v

@@ -1,174 +1,182 @@
-// Evaluation of places and values: the nodes are read as they stand in the table, which has passed the check.
-// `l` are the lists of the table (crate `lookups`), `m` is the memory: values, bases and ends. `s` holds base and end of what was worked out,
-// and U. A result is one number, below 2^32 a value or a place, else how evaluation ended.
+// Evaluation of places and values: the nodes are read as they stand in the table, which has passed the check, whose lists are `l`.
+// One match on the kind in `place` and one in `value`. Where the check has noted that no call is needed for a child, a constant or a variable
+// that is read, none is made.
 ghost use mathlib.Core.Path.{_≡_};
-ghost use mathlib.Core.Bool.{true};
-ghost use mathlib.Core.List.{List, map};
-ghost use Prim.Native.Nat.{ℕ, _+_, _*_, _<_};
+ghost use mathlib.Core.List.{map};
+ghost use denote.Ref.{name};
+ghost use Prim.Native.Nat.{_+_, _*_, _<_};
 ghost use lib.ListN.{length};
+ghost use Rattle.words.specs.Columns.{column};
 ghost use Rattle.semantics.specs.Words.{Words};
 ghost use Rattle.semantics.specs.Table.{known-target, size-of};
-ghost use Rattle.words.specs.Columns.{column};
-ghost use Rattle.steps.specs.Answers.{failed, Bounded};
+ghost use Rattle.semantics.specs.Rules.{unbounded};
+ghost use Rattle.steps.specs.Answers.{slots, Datum-is, Given};
 ghost use Rattle.lookups.specs.Lists.{part, Known-word, Known-ready};
-ghost use Rattle.evaluator.specs.Result.{Node-ready, Reads-variable, Place-ready, Value-ready, Pointed-ready, Place-answered, Value-answered, Assigned-answered};
+ghost use Rattle.evaluator.specs.Result.{Place-ready, Value-ready, Place-answered, Value-answered, Assigned-answered, Reads-variable, to-int-from-pointer};
+use layout::kind;
+use lookups::A;
+use lookups::B;
+use lookups::KIND;
+use lookups::Lists;
 use lookups::child;
 use lookups::count;
+use lookups::is_constant;
 use lookups::item;
+use lookups::noted;
+use lookups::of_variable;
 use lookups::offset;
 use lookups::size_of;
 use lookups::step;
+use lookups::type_in;
 use lookups::type_of;
+use steps::BASE;
+use steps::END;
 use steps::FAILED;
+use steps::Memory;
+use steps::Slots;
+use steps::add;
 use steps::allocate;
-use steps::bound;
-use steps::cast;
 use steps::deref;
+use steps::drop_bounds;
+use steps::fetch;
 use steps::field;
-use steps::keeps;
 use steps::load;
 use steps::number;
 use steps::sum;
 use steps::variable;
 use steps::words;
+use words::index;
 use words::long;
 
 // The size that node n asks for, a number.
-fn size(l: &[&[u32]; 7], n: usize, s: &mut [u32; 3]) -> u64
-    requires { ⌜ (n < 512) × (n * 3 + 1 < length (column (map (λ x. now x) (now l)) 0)) × (length (now s) ≡ 3) ⌝ }
+fn size(l: &Lists, n: usize, s: &mut Slots) -> u64
+    requires { ⌜ (n < 512) × (n * 3 + 1 < length (column (map (λ x. now x) (now l)) 0)) × (length (now s) ≡ slots) ⌝ }
     requires { ⌜ Known-ready known-target (map (λ x. now x) (now l)) (part (map (λ x. now x) (now l)) n 1) ⌝ }
-    ensures { λ r. ⌜ ((t : Words) → Known-word known-target t (map (λ x. now x) (now (l .entry))) (part (map (λ x. now x) (now (l .entry))) n 1) → r ≡ size-of t (part (map (λ x. now x) (now (l .entry))) n 1)) ⌝ }
-    ensures { λ r. ⌜ (r < failed) × (Bounded 0 0 (now (s .entry)) (now (s .exit))) ⌝ }
+    ensures { λ r. ⌜ ((t : Words) → Known-word known-target t (map (λ x. now x) (now (l .entry))) (part (map (λ x. now x) (now (l .entry))) n 1) → Given Datum-is (unbounded (size-of t (part (map (λ x. now x) (now (l .entry))) n 1))) (now (s .entry)) r (now (s .exit))) ⌝ }
 {
-    bound(0, 0, s);
-    long(size_of(l, item(l, n, 1)))
-}
-
-// Whether node n reads a variable: then it is worked out without a call.
-fn reads_variable(l: &[&[u32]; 7], n: usize) -> bool
-    requires { ⌜ Node-ready (map (λ x. now x) (now l)) n ⌝ }
-    ensures { λ r. ⌜ (r ≡ true → Reads-variable (map (λ x. now x) (now (l .entry))) n) ⌝ }
-{
-    if item(l, n, 0) != 6 {
-        return false;
-    }
-    item(l, child(l, n, 1), 0) == 1
+    number(size_of(l, item(l, n, A)), s)
 }
 
 // The value of node n, which reads a variable.
-fn read_variable(l: &[&[u32]; 7], m: &[&[u32]; 3], n: usize, s: &mut [u32; 3]) -> u64
+fn read_variable(l: &Lists, m: &mut Memory, n: usize, s: &mut Slots) -> u64
     requires { ⌜ (Value-ready (map (λ x. now x) (now l)) (map (λ x. now x) (now m)) n (now s)) × (Reads-variable (map (λ x. now x) (now l)) n) ⌝ }
-    ensures { λ r. ⌜ Value-answered (map (λ x. now x) (now (l .entry))) (map (λ x. now x) (now (m .entry))) n (now (s .entry)) r (now (s .exit)) ⌝ }
+    ensures { λ r. ⌜ (Value-answered (map (λ x. now x) (now (l .entry))) (map (λ x. now x) (now (m .entry))) n (now (s .entry)) r (map (λ x. now x) (now (m .exit))) (now (s .exit))) × (now (m .exit) ≡ now (m .entry)) ⌝ }
 {
-    let c = child(l, n, 1);
-    load(m, long(item(l, c, 1)) + 1, type_of(l, n), s)
+    let c = child(l, n, A);
+    fetch(m, index(item(l, c, A)) + 1, type_of(l, c), s)
 }
 
-// The place that node n of this kind, no variable, is from what its child answered, v.
-fn pointed(l: &[&[u32]; 7], n: usize, kind: u32, v: u64, s: &mut [u32; 3]) -> u64
-    requires { ⌜ Pointed-ready (map (λ x. now x) (now l)) n kind (now s) ⌝ }
-    ensures { λ r. ⌜ ((m : List Words) (a : ℕ) (s₀ : Words) → Value-answered (map (λ x. now x) (now (l .entry))) m a s₀ v (now (s .entry)) → kind ≡ part (map (λ x. now x) (now (l .entry))) n 0 → a ≡ part (map (λ x. now x) (now (l .entry))) n 1 → Place-answered (map (λ x. now x) (now (l .entry))) m n s₀ r (now (s .exit))) ⌝ }
+// Whether node n, a cast, goes from pointer to int: else bounds stay as they are, since an int has none.
+fn drops(l: &Lists, n: usize) -> bool
+    requires { ⌜ (n < 512) × (n * 3 + 2 < length (column (map (λ x. now x) (now l)) 0)) × (part (map (λ x. now x) (now l)) n 1 < 512) × (part (map (λ x. now x) (now l)) n 1 < length (column (map (λ x. now x) (now l)) 1)) ⌝ }
+    ensures { λ r. ⌜ r ≡ to-int-from-pointer (map (λ x. now x) (now (l .entry))) n ⌝ }
 {
-    if kind == 2 {
-        return deref(v, s[0], s[1]);
+    if item(l, n, B) != 0 {
+        return false;
     }
-    field(v, offset(l, n), count(l, n), s)
+    type_of(l, child(l, n, A)) != 0
 }
 
-// The place that node n is, with its bounds. A pointer that is read is read here, without a call of `value`.
-pub fn place(l: &[&[u32]; 7], m: &[&[u32]; 3], n: usize, s: &mut [u32; 3]) -> u64
-    requires { ⌜ Place-ready (map (λ x. now x) (now l)) (map (λ x. now x) (now m)) n (now s) ⌝ }
-    ensures { λ r. ⌜ Place-answered (map (λ x. now x) (now (l .entry))) (map (λ x. now x) (now (m .entry))) n (now (s .entry)) r (now (s .exit)) ⌝ }
-{
-    let kind = item(l, n, 0);
-    if kind == 1 {
-        return variable(item(l, n, 1), s);
-    }
-    let c = child(l, n, 1);
-    if item(l, c, 0) != 6 {
-        let v = value(l, m, c, s);
-        return pointed(l, n, kind, v, s);
-    }
-    let g = child(l, c, 1);
-    if item(l, g, 0) == 1 {
-        let v = read_variable(l, m, c, s);
-        return pointed(l, n, kind, v, s);
-    }
-    let at = place(l, m, g, s);
-    let v = load(m, at, type_of(l, c), s);
-    pointed(l, n, kind, v, s)
-}
-
-// The value that node n has, with its bounds. Where no call is needed for a child, a variable that is read or a constant that is
-// added or obtained, none is made.
-pub fn value(l: &[&[u32]; 7], m: &[&[u32]; 3], n: usize, s: &mut [u32; 3]) -> u64
+// The value of node n, a pointer that is followed or the left operand of a sum.
+fn operand(l: &Lists, m: &mut Memory, n: usize, s: &mut Slots) -> u64
     requires { ⌜ Value-ready (map (λ x. now x) (now l)) (map (λ x. now x) (now m)) n (now s) ⌝ }
-    ensures { λ r. ⌜ Value-answered (map (λ x. now x) (now (l .entry))) (map (λ x. now x) (now (m .entry))) n (now (s .entry)) r (now (s .exit)) ⌝ }
+    ensures { λ r. ⌜ (Value-answered (map (λ x. now x) (now (l .entry))) (map (λ x. now x) (now (m .entry))) n (now (s .entry)) r (map (λ x. now x) (now (m .exit))) (now (s .exit))) × (map (λ x. name x) (now (m .exit)) ≡ map (λ x. name x) (now (m .entry))) ⌝ }
 {
-    match item(l, n, 0) {
-        4 => number(item(l, n, 1), s),
-        5 => {
-            let v = value(l, m, child(l, n, 1), s);
-            if FAILED <= v {
-                return v;
-            }
-            // The child's number is read again: kept over the call, it would be one register more for every call to save.
-            let by = step(l, type_of(l, child(l, n, 1)));
-            let c = child(l, n, 2);
-            if item(l, c, 0) == 4 {
-                return sum(v, by, long(item(l, c, 1)));
-            }
-            let b = s[0];
-            let e = s[1];
-            let w = value(l, m, c, s);
-            bound(b, e, s);
-            sum(v, by, w)
-        }
-        6 => {
-            let c = child(l, n, 1);
-            if item(l, c, 0) == 1 {
-                return read_variable(l, m, n, s);
-            }
-            load(m, place(l, m, c, s), type_of(l, n), s)
-        }
-        7 => place(l, m, child(l, n, 1), s),
-        8 => {
-            let c = child(l, n, 1);
-            let v = value(l, m, c, s);
-            cast(v, keeps(type_of(l, c), item(l, n, 2)), s)
-        }
-        9 => size(l, n, s),
-        _ => {
-            let c = child(l, n, 1);
-            if item(l, c, 0) == 4 {
-                return allocate(long(item(l, c, 1)), words(m), s);
-            }
-            allocate(value(l, m, c, s), words(m), s)
-        }
-    }
-}
-
-// The value that a command assigns, node n: for a constant or a variable that is read, with no call.
-pub fn result(l: &[&[u32]; 7], m: &[&[u32]; 3], n: usize, s: &mut [u32; 3]) -> u64
-    requires { ⌜ Value-ready (map (λ x. now x) (now l)) (map (λ x. now x) (now m)) n (now s) ⌝ }
-    ensures { λ r. ⌜ Value-answered (map (λ x. now x) (now (l .entry))) (map (λ x. now x) (now (m .entry))) n (now (s .entry)) r (now (s .exit)) ⌝ }
-{
-    if item(l, n, 0) == 4 {
-        return number(item(l, n, 1), s);
-    }
-    if reads_variable(l, n) {
+    if of_variable(noted(l, n)) {
         return read_variable(l, m, n, s);
     }
     value(l, m, n, s)
 }
 
-// The place that a command assigns to, node n: for a variable its word, with no more work. Its bounds are not asked.
-pub fn assigned(l: &[&[u32]; 7], m: &[&[u32]; 3], n: usize, s: &mut [u32; 3]) -> u64
+// The place that node n is, with its bounds.
+pub fn place(l: &Lists, m: &mut Memory, n: usize, s: &mut Slots) -> u64
     requires { ⌜ Place-ready (map (λ x. now x) (now l)) (map (λ x. now x) (now m)) n (now s) ⌝ }
-    ensures { λ r. ⌜ Assigned-answered (map (λ x. now x) (now (l .entry))) (map (λ x. now x) (now (m .entry))) n (now (s .entry)) r (now (s .exit)) ⌝ }
+    ensures { λ r. ⌜ (Place-answered (map (λ x. now x) (now (l .entry))) (map (λ x. now x) (now (m .entry))) n (now (s .entry)) r (map (λ x. now x) (now (m .exit))) (now (s .exit))) × (map (λ x. name x) (now (m .exit)) ≡ map (λ x. name x) (now (m .entry))) ⌝ }
 {
-    if item(l, n, 0) == 1 {
-        return long(item(l, n, 1)) + 1;
+    match item(l, n, KIND) {
+        kind::VARIABLE => variable(item(l, n, A), s),
+        kind::DEREF => {
+            let v = operand(l, m, child(l, n, A), s);
+            deref(n, v, s)
+        }
+        _ => {
+            let v = operand(l, m, child(l, n, A), s);
+            field(n, v, offset(l, n), count(l, n), s)
+        }
+    }
+}
+
+// The value that node n has, with its bounds.
+pub fn value(l: &Lists, m: &mut Memory, n: usize, s: &mut Slots) -> u64
+    requires { ⌜ Value-ready (map (λ x. now x) (now l)) (map (λ x. now x) (now m)) n (now s) ⌝ }
+    ensures { λ r. ⌜ (Value-answered (map (λ x. now x) (now (l .entry))) (map (λ x. now x) (now (m .entry))) n (now (s .entry)) r (map (λ x. now x) (now (m .exit))) (now (s .exit))) × (map (λ x. name x) (now (m .exit)) ≡ map (λ x. name x) (now (m .entry))) ⌝ }
+{
+    match item(l, n, KIND) {
+        kind::CONSTANT => number(item(l, n, A), s),
+        kind::SUM => {
+            let v = operand(l, m, child(l, n, A), s);
+            if FAILED <= v {
+                return v;
+            }
+            // The child's number is read again: kept over the call, it would be one register more for every call to save.
+            let by = step(l, type_of(l, child(l, n, A)));
+            let c = child(l, n, B);
+            if is_constant(noted(l, c)) {
+                return add(v, by, long(item(l, c, A)));
+            }
+            let base = s[BASE];
+            let end = s[END];
+            let w = value(l, m, c, s);
+            sum(v, base, end, by, w, s)
+        }
+        kind::READ => {
+            let c = child(l, n, A);
+            let x = noted(l, c);
+            if of_variable(x) {
+                return read_variable(l, m, n, s);
+            }
+            let at = place(l, m, c, s);
+            load(m, at, type_in(x), s)
+        }
+        kind::ADDRESS => place(l, m, child(l, n, A), s),
+        kind::CAST => {
+            let c = child(l, n, A);
+            if drops(l, n) {
+                let v = value(l, m, c, s);
+                return drop_bounds(v, s);
+            }
+            value(l, m, c, s)
+        }
+        kind::SIZE => size(l, n, s),
+        _ => {
+            let c = child(l, n, A);
+            if is_constant(noted(l, c)) {
+                return allocate(long(item(l, c, A)), words(m), s);
+            }
+            let v = value(l, m, c, s);
+            allocate(v, words(m), s)
+        }
+    }
+}
+
+// The value that a command assigns, node n.
+pub fn result(l: &Lists, m: &mut Memory, n: usize, s: &mut Slots) -> u64
+    requires { ⌜ Value-ready (map (λ x. now x) (now l)) (map (λ x. now x) (now m)) n (now s) ⌝ }
+    ensures { λ r. ⌜ (Value-answered (map (λ x. now x) (now (l .entry))) (map (λ x. now x) (now (m .entry))) n (now (s .entry)) r (map (λ x. now x) (now (m .exit))) (now (s .exit))) × (map (λ x. name x) (now (m .exit)) ≡ map (λ x. name x) (now (m .entry))) ⌝ }
+{
+    if is_constant(noted(l, n)) {
+        return number(item(l, n, A), s);
+    }
+    operand(l, m, n, s)
+}
+
+// The place that a command assigns to, node n: for a variable its word, with no more work. Its bounds are not asked.
+pub fn assigned(l: &Lists, m: &mut Memory, n: usize, s: &mut Slots) -> u64
+    requires { ⌜ Place-ready (map (λ x. now x) (now l)) (map (λ x. now x) (now m)) n (now s) ⌝ }
+    ensures { λ r. ⌜ (Assigned-answered (map (λ x. now x) (now (l .entry))) (map (λ x. now x) (now (m .entry))) n (now (s .entry)) r (map (λ x. now x) (now (m .exit))) (now (s .exit))) × (map (λ x. name x) (now (m .exit)) ≡ map (λ x. name x) (now (m .entry))) ⌝ }
+{
+    if of_variable(noted(l, n)) {
+        return long(item(l, n, A)) + 1;
     }
     place(l, m, n, s)
 }

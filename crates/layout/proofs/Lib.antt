@@ -3,3 +3,4 @@ pub mod Laws
 pub mod Lists
 pub mod Sections
 pub mod Types
+pub mod Notes

@@ -2,3 +2,4 @@
 pub mod Layout
 pub mod Lists
 pub mod Types
+pub mod Notes

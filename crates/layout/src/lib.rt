@@ -26,6 +26,59 @@ pub struct Table {
     pub commands: Section,
 }
 
+// The first field of each record, and the number of all fields after the last.
+pub type Firsts = [u32; Table::RECORDS + 1];
+
+// The pointer to each target: the types, then the records.
+pub type Entries = [u32; Table::TYPES + Table::RECORDS];
+
+// The size of each record.
+pub type Sizes = [u32; Table::RECORDS];
+
+// The offset of each field.
+pub type Offsets = [u32; Table::FIELDS];
+
+// The note of each node, and how often it is used.
+pub type Notes = [u32; Table::NODES];
+
+pub type Uses = [u32; Table::NODES];
+
+// The kinds of nodes: places, then values.
+pub mod kind {
+    pub const VARIABLE: u32 = 1;
+
+    pub const DEREF: u32 = 2;
+
+    pub const FIELD: u32 = 3;
+
+    pub const CONSTANT: u32 = 4;
+
+    pub const SUM: u32 = 5;
+
+    pub const READ: u32 = 6;
+
+    pub const ADDRESS: u32 = 7;
+
+    pub const CAST: u32 = 8;
+
+    pub const SIZE: u32 = 9;
+
+    pub const MALLOC: u32 = 10;
+}
+
+// The bits of a node's note. Types are below the lowest.
+pub mod note {
+    // A value that is neither of the next two.
+    pub const VALUE: u32 = 0;
+
+    pub const CONSTANT: u32 = 128;
+
+    // A variable, or the read of one.
+    pub const VARIABLE: u32 = 256;
+
+    pub const PLACE: u32 = 512;
+}
+
 enum ParsedSection {
     Is(Section),
     Refused(u32, usize),
@@ -44,7 +97,7 @@ pub enum Verdict {
 
 impl Section {
     // The section whose count stands at `place` and whose entries have `words` words each, or the refusal (1, 3, then 1).
-    fn parse(t: &[u32], place: usize, words: usize, limit: u32) -> ParsedSection
+    fn parse(t: &[u32], place: usize, words: usize, limit: usize) -> ParsedSection
         requires { ⌜ (place ≤ length (now t)) × (words ≤ 3) × (limit ≤ 512) ⌝ }
         ensures { λ r. ⌜ ((s : ℕ) → place ≡ count-place (now (t .entry)) s → words ≡ word entry-words s → limit ≡ word limits s → r ≡ section-by (now (t .entry)) s (section-fault (now (t .entry)) s)) ⌝ }
     {
@@ -52,12 +105,11 @@ impl Section {
         if length <= place {
             return ParsedSection::Refused(1, length);
         }
-        let total = t[place];
-        if limit < total {
+        let count = index(t[place]);
+        if limit < count {
             return ParsedSection::Refused(3, place);
         }
         let at = place + 1;
-        let count = index(total);
         if length - at < words * count {
             return ParsedSection::Refused(1, length);
         }
@@ -66,17 +118,20 @@ impl Section {
 }
 
 impl Table {
-    pub const RECORDS: u32 = 32;
+    pub const RECORDS: usize = 32;
 
-    pub const FIELDS: u32 = 128;
+    pub const FIELDS: usize = 128;
 
-    pub const POINTERS: u32 = 64;
+    pub const POINTERS: usize = 64;
 
-    pub const VARIABLES: u32 = 64;
+    pub const VARIABLES: usize = 64;
 
-    pub const NODES: u32 = 512;
+    pub const NODES: usize = 512;
 
-    pub const COMMANDS: u32 = 256;
+    pub const COMMANDS: usize = 256;
+
+    // Types: int, the pointer to void, and the pointer entries.
+    pub const TYPES: usize = 2 + Table::POINTERS;
 
     pub const FIELD_WORDS: u32 = 4096;
 
@@ -153,7 +208,7 @@ pub fn target_slot(x: u32) -> usize
     if x < Table::RECORD {
         index(x)
     } else {
-        66 + index(x - Table::RECORD)
+        Table::TYPES + index(x - Table::RECORD)
     }
 }
 
@@ -188,7 +243,7 @@ fn total_fields(t: &[u32], records: Section) -> usize
 }
 
 // Notes the first field of each record, and their number after the last.
-fn note_first(t: &[u32], records: Section, first: &mut [u32; 33])
+fn note_first(t: &[u32], records: Section, first: &mut Firsts)
     requires { ⌜ Stands (now t) 0 records ⌝ }
     requires { ⌜ (first-field (now t) (count (now t) 0) ≤ 128) × (length (now first) ≡ 33) ⌝ }
     ensures { λ r. ⌜ now (first .exit) ≡ filled (now (first .entry)) 0 (count (now (t .entry)) 0 + 1) (first-field (now (t .entry))) ⌝ }
@@ -225,7 +280,7 @@ fn check_fields(t: &[u32], fields: Section, pointers: usize) -> Verdict
 }
 
 // 5 and 6 for the first pointer with an unknown target or one seen before. Notes the pointer to each target before it.
-fn check_pointers(t: &[u32], pointers: Section, records: usize, entry: &mut [u32; 98]) -> Verdict
+fn check_pointers(t: &[u32], pointers: Section, records: usize, entry: &mut Entries) -> Verdict
     requires { ⌜ (Stands (now t) 2 pointers) × (records ≡ count (now t) 0) × (records ≤ 32) × (now entry ≡ replicate 98 0) ⌝ }
     ensures found { λ r. ⌜ Checked r (each (count (now (t .entry)) 2) (pointer-fault (now (t .entry)))) (Marks (now (t .entry)) (now (entry .exit)) (count (now (t .entry)) 2)) ⌝ }
     ensures lists { λ r. ⌜ now (entry .exit) ≡ marked (now (t .entry)) (passed-below (count (now (t .entry)) 2) (pointer-fault (now (t .entry)))) (now (entry .entry)) ⌝ }
@@ -267,7 +322,7 @@ fn check_variables(t: &[u32], variables: Section, pointers: usize) -> Verdict
 
 // Refusals 4 to 6 of sections 1 to 4. Where these pass, the two lists are filled with what the check of nodes looks up; where one is
 // refused, they are as they were, or filled as far as the check had come.
-pub fn check_types(t: &[u32], l: Table, first: &mut [u32; 33], entry: &mut [u32; 98]) -> Verdict
+pub fn check_types(t: &[u32], l: Table, first: &mut Firsts, entry: &mut Entries) -> Verdict
     requires { ⌜ Laid-out (now t) l ⌝ }
     requires { ⌜ Room (now first) (now entry) ⌝ }
     ensures found { λ r. ⌜ Checked r (types-fault (now (t .entry))) (Looked-up (now (t .entry)) (now (first .exit)) (now (entry .exit))) ⌝ }

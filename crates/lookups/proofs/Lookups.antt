@@ -1,22 +1,24 @@
 -- Laws of what the evaluator looks up in a table's lists: nodes, targets, fields, sizes and offsets.
-use Prim.Native.Nat.{ℕ, _+_, _*_, _-_, _≤_, _<_}
-use mathlib.Core.Bool.{true}
+use Prim.Native.Nat.{ℕ, _+_, _*_, _-_, _/_, _%_, _≤_, _<_}
+use mathlib.Core.Bool.{Bool, true}
 use mathlib.Core.Path.{_≡_, refl, sym, ap, _∙_}
 use mathlib.Core.Logic.{⊎-elim}
 use mathlib.Core.List.{List}
 use native.Mathlib.Omega.{arith}
 use native.Mathlib.Decide.{decLt}
-use borrow.Author.Tests.{lt-leb, le-leb, lt-ltb, ltb-true, leb-true}
-use lib.Dec.{leb, ltb}
+use borrow.Author.Tests.{lt-leb, le-leb, lt-ltb, ltb-true, leb-true, eqb-true}
+use lib.Dec.{leb, ltb, eqb}
 use lib.ListN.{length}
 use Rattle.semantics.specs.Words.{Words, word, if_then_else_}
-use Rattle.semantics.specs.Table.{records, fields, pointers, nodes, count, item, known-type, known-target, target, points-to-record, pointed-record, field-total, first-field, field-offset, field-count, size-of, field, value, sort-of, node-kind, node-a, node-b, node-type}
+use Rattle.semantics.specs.Table.{records, fields, pointers, nodes, count, item, known-type, known-target, target, points-to-record, pointed-record, field-total, first-field, field-offset, field-count, size-of, variable, field, constant, read, place, value, sort-of, node-kind, node-a, node-b, node-type}
 use Rattle.semantics.specs.Syntax.{step-of}
 use Rattle.semantics.specs.Check.{is-child}
 use Rattle.semantics.proofs.Passed.{Types-passed, section-ok, require-passes, target-known, record-known, field-in}
 use Rattle.semantics.proofs.Tests.{and-true, or-true}
 use Rattle.semantics.proofs.Trees.{Node-ok, node-ok, is-child-true, types-known}
 use Rattle.layout.specs.Types.{Record-in}
+use Rattle.layout.specs.Notes.{note}
+use Rattle.layout.proofs.Notes.{type-noted, constant-noted, variable-noted, read-noted}
 use Rattle.layout.proofs.Types.{record-in}
 use Rattle.lookups.specs.Lists.{part, Lists, Field-node, Known-word}
 use Rattle.words.specs.Columns.{column}
@@ -36,18 +38,43 @@ module _ {t : Words} {l : List Words} (lists : Lists t l) {n : ℕ} (node : n < 
   pub item-inside : (j : ℕ) → j < 3 → (n < 512) × (j < 3) × (n * 3 + j < length (column l 0))
   item-inside j h = omega (arith, few-nodes (lists .passed .types), lists .node-room)
 
-  pub type-inside : (n < 512) × (n < length (column l 1))
-  type-inside = omega (arith, few-nodes (lists .passed .types), lists .type-room)
+  pub note-inside : (n < 512) × (n < length (column l 1))
+  note-inside = omega (arith, few-nodes (lists .passed .types), lists .note-room)
 
   pub item-is : (j : ℕ) {x : ℕ} → j < 3 → x ≡ part l n j → x ≡ item t nodes n j
   item-is j h e = e ∙ lists .node-is n j node h
 
--- The type that the lists have of a value is the node's, and known.
-pub noted-type : {t : Words} {l : List Words} {a y : ℕ} (lists : Lists t l) → a < count t nodes → sort-of (node-kind t a) ≡ value → y ≡ word (column l 1) a
-    → (y ≡ node-type t a) × Known-word known-type t l y
-noted-type {t} {a = a} lists inside sort e =
-    let same = e ∙ lists .type-is a inside sort in
-    (same, record { lists = lists; known = rw same (types-known (lists .passed .types) (count t nodes) (lists .passed .node-passes) a inside) })
+-- What the lists have noted of a node.
+module _ {t : Words} {l : List Words} (lists : Lists t l) {a : ℕ} (inside : a < count t nodes) where
+  known : known-type t (node-type t a) ≡ true
+  known = types-known (lists .passed .types) (count t nodes) (lists .passed .node-passes) a inside
+
+  small : node-type t a < 128
+  unfolding known-type
+  small = omega (arith, ltb-true (node-type t a) (2 + count t pointers) known, few-pointers (lists .passed .types))
+
+  -- Its type, which is known.
+  pub noted-type : {y : ℕ} → y ≡ word (column l 1) a % 128 → (y ≡ node-type t a) × Known-word known-type t l y
+  noted-type e =
+      let same = e ∙ ap (λ x. x % 128) (lists .note-is a inside) ∙ type-noted t a small in
+      (same, record { lists = lists; known = rw same known })
+
+  -- A bit of its note that is set.
+  module _ {x : ℕ} {f : Bool} (e : x ≡ word (column l 1) a) (taken : f ≡ true) where
+    is-set : {b : ℕ} → f ≡ eqb b 1 → b ≡ 1
+    is-set {b} h = eqb-true b 1 (sym h ∙ taken)
+
+    is-note : x ≡ note t a
+    is-note = e ∙ lists .note-is a inside
+
+    pub constant-bit : f ≡ eqb (x / 128 % 2) 1 → node-kind t a ≡ constant
+    constant-bit h = constant-noted t a small (rw (← is-note) (is-set h))
+
+    pub variable-bit : f ≡ eqb (x / 256 % 2) 1 → sort-of (node-kind t a) ≡ place → node-kind t a ≡ variable
+    variable-bit h s = variable-noted t a small s (rw (← is-note) (is-set h))
+
+    pub read-bit : f ≡ eqb (x / 256 % 2) 1 → sort-of (node-kind t a) ≡ value → (node-kind t a ≡ read) × (item t nodes (node-a t a) 0 ≡ 1)
+    read-bit h s = read-noted t a small s (rw (← is-note) (is-set h))
 
 -- ---- records
 
@@ -94,7 +121,7 @@ record-of t n = pointed-record t (node-type t (node-a t n))
 
 record Field-in (t : Words) (l : List Words) (n : ℕ) : Type 0 where
   child : node-a t n < n
-  type : word (column l 1) (node-a t n) ≡ node-type t (node-a t n)
+  type : word (column l 1) (node-a t n) % 128 ≡ node-type t (node-a t n)
   known : known-type t (node-type t (node-a t n)) ≡ true
   entry : 2 ≤ node-type t (node-a t n)
   far : 65536 ≤ target t (node-type t (node-a t n))
@@ -108,7 +135,7 @@ field-found {t} {l} {n} h =
     let g : Node-ok t n field (node-a t n) (node-b t n) = rw (h .kind) at (node-ok t n (ok .node-passes n (h .node))) in
     let ch = is-child-true t value n (node-a t n) (require-passes (is-child t value n (node-a t n)) 7 _ (g .a-ok)) in
     let inside : node-a t n < count t nodes = omega (arith, ch .0, h .node) in
-    let noted = noted-type (h .lists) inside (sym (ch .1)) refl in
+    let noted = noted-type (h .lists) inside refl in
     let known : known-type t (node-type t (node-a t n)) ≡ true = rw (noted .0) at (noted .1 .known) in
     let fit = and-true (points-to-record t (node-type t (node-a t n))) _ (g .fit) in
     let points = and-true (leb 2 (node-type t (node-a t n))) (leb 65536 (target t (node-type t (node-a t n)))) (fit .0) in
@@ -126,9 +153,9 @@ module _ {t : Words} {l : List Words} {n : ℕ} (h : Field-node t l n) where
   pub child-inside : {a : ℕ} → a ≡ part l n 1 → (a < 512) × (a < length (column l 1))
   child-inside e =
       let f = field-found h in
-      rw (item-is (h .lists) (h .node) 1 (omega arith) e) (type-inside (h .lists) (omega (arith, f .child, h .node)))
+      rw (item-is (h .lists) (h .node) 1 (omega arith) e) (note-inside (h .lists) (omega (arith, f .child, h .node)))
 
-  module _ {a ty : ℕ} (e : a ≡ part l n 1) (q : ty ≡ word (column l 1) a) where
+  module _ {a ty : ℕ} (e : a ≡ part l n 1) (q : ty ≡ word (column l 1) a % 128) where
     type-is : ty ≡ node-type t (node-a t n)
     type-is = q ∙ rw (item-is (h .lists) (h .node) 1 (omega arith) e) (field-found h .type)
 

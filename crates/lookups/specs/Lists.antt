@@ -5,23 +5,24 @@ use mathlib.Core.Path.{_≡_}
 use mathlib.Core.List.{List}
 use lib.ListN.{length}
 use Rattle.semantics.specs.Words.{Words, word}
-use Rattle.semantics.specs.Table.{records, fields, pointers, nodes, count, item, record-target, field-total, first-field, field-offset, size-of, field, value, sort-of, node-kind, node-type}
+use Rattle.semantics.specs.Table.{records, fields, pointers, nodes, count, item, record-target, field-total, first-field, field-offset, size-of, field, node-kind}
 use Rattle.semantics.proofs.Passed.{Passed}
 use Rattle.words.specs.Columns.{column}
 use Rattle.layout.specs.Types.{Tabulated}
+use Rattle.layout.specs.Notes.{note}
 
 -- Word j of node n.
 abbrev pub part : List Words → ℕ → ℕ → ℕ
 part l n j = word (column l 0) (n * 3 + j)
 
--- l are the lists of the table t: its nodes, their types, the targets of its pointers, its fields, the first field of each
--- record, the size of each record, and the offset of each field. Of the types, those of values are asked.
+-- l are the lists of the table t: its nodes, their notes, the targets of its pointers, its fields, the first field of each
+-- record, the size of each record, and the offset of each field.
 pub record Lists (t : Words) (l : List Words) : Type 0 where
   pub passed : Passed t
   pub node-is : (n j : ℕ) → n < count t nodes → j < 3 → part l n j ≡ item t nodes n j
   pub node-room : 3 * count t nodes ≤ length (column l 0)
-  pub type-is : (n : ℕ) → n < count t nodes → sort-of (node-kind t n) ≡ value → word (column l 1) n ≡ node-type t n
-  pub type-room : count t nodes ≤ length (column l 1)
+  pub note-is : (n : ℕ) → n < count t nodes → word (column l 1) n ≡ note t n
+  pub note-room : count t nodes ≤ length (column l 1)
   pub target-is : (i : ℕ) → i < count t pointers → word (column l 2) i ≡ item t pointers i 0
   pub target-room : count t pointers ≤ length (column l 2)
   pub field-is : (f : ℕ) → f < count t fields → word (column l 3) (2 * f + 1) ≡ item t fields f 1

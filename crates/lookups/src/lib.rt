@@ -1,9 +1,8 @@
-// What is looked up in the lists of a table that has passed the check: words of its nodes, types, fields, sizes and steps.
-// `l` are these lists: its nodes, their types, the targets of its pointers, its fields, the first field of each record, the size of each
-// record, and the offset of each field.
+// What is looked up in the lists of a table that has passed the check, `l`: words of its nodes, notes, fields, sizes and steps.
 ghost use mathlib.Core.Path.{_≡_};
 ghost use mathlib.Core.List.{map};
-ghost use Prim.Native.Nat.{_+_, _*_, _≤_, _<_, _^_};
+ghost use Prim.Native.Nat.{_+_, _*_, _≤_, _<_, _^_, _/_, _%_};
+ghost use lib.Dec.{eqb};
 ghost use lib.ListN.{length};
 ghost use Rattle.semantics.specs.Words.{Words, word};
 ghost use Rattle.semantics.specs.Table.{known-type, known-target, target, pointed-record, first-field, field-offset, field-count, size-of, node-a, node-b, node-type};
@@ -11,10 +10,36 @@ ghost use Rattle.semantics.specs.Syntax.{step-of};
 ghost use Rattle.words.specs.Columns.{column};
 ghost use Rattle.lookups.specs.Lists.{part, Field-node, Field-ready, Known-word, Known-ready};
 use layout::Table;
+use layout::note;
 use words::index;
 
+// The lists: the nodes, their notes, the targets of the pointers, the fields, the first field of each record, the size of each record, and
+// the offset of each field.
+pub type Lists<'a> = [&'a [u32]; 7];
+
+const NODES: usize = 0;
+
+const NOTES: usize = 1;
+
+const TARGETS: usize = 2;
+
+const FIELDS: usize = 3;
+
+const FIRSTS: usize = 4;
+
+const SIZES: usize = 5;
+
+const OFFSETS: usize = 6;
+
+// The words of a node.
+pub const KIND: usize = 0;
+
+pub const A: usize = 1;
+
+pub const B: usize = 2;
+
 // Word i of list j of the table's lists.
-fn entry(l: &[&[u32]; 7], j: usize, i: usize) -> u32
+fn entry(l: &Lists, j: usize, i: usize) -> u32
     requires { ⌜ (j < 7) × (i < 2 ^ 32) × (i < length (column (map (λ x. now x) (now l)) j)) ⌝ }
     ensures { λ r. ⌜ r ≡ word (column (map (λ x. now x) (now (l .entry))) j) i ⌝ }
 {
@@ -22,82 +47,111 @@ fn entry(l: &[&[u32]; 7], j: usize, i: usize) -> u32
 }
 
 // Word j of node n.
-pub fn item(l: &[&[u32]; 7], n: usize, j: usize) -> u32
+pub fn item(l: &Lists, n: usize, j: usize) -> u32
     requires { ⌜ (n < 512) × (j < 3) × (n * 3 + j < length (column (map (λ x. now x) (now l)) 0)) ⌝ }
     ensures { λ r. ⌜ r ≡ part (map (λ x. now x) (now (l .entry))) n j ⌝ }
 {
-    entry(l, 0, n * 3 + j)
+    entry(l, NODES, n * 3 + j)
 }
 
 // The node or the number that word j of node n is.
-pub fn child(l: &[&[u32]; 7], n: usize, j: usize) -> usize
+pub fn child(l: &Lists, n: usize, j: usize) -> usize
     requires { ⌜ (n < 512) × (j < 3) × (n * 3 + j < length (column (map (λ x. now x) (now l)) 0)) ⌝ }
     ensures { λ r. ⌜ r ≡ part (map (λ x. now x) (now (l .entry))) n j ⌝ }
 {
     index(item(l, n, j))
 }
 
-// The type of node n, a value.
-pub fn type_of(l: &[&[u32]; 7], n: usize) -> u32
+// What the check has noted of node n.
+pub fn noted(l: &Lists, n: usize) -> u32
     requires { ⌜ (n < 512) × (n < length (column (map (λ x. now x) (now l)) 1)) ⌝ }
     ensures { λ r. ⌜ r ≡ word (column (map (λ x. now x) (now (l .entry))) 1) n ⌝ }
 {
-    entry(l, 1, n)
+    entry(l, NOTES, n)
+}
+
+// The type in a note.
+pub fn type_in(x: u32) -> u32
+    ensures { λ r. ⌜ r ≡ x % 128 ⌝ }
+{
+    x % note::CONSTANT
+}
+
+// A note of a constant.
+pub fn is_constant(x: u32) -> bool
+    ensures { λ r. ⌜ r ≡ eqb (x / 128 % 2) 1 ⌝ }
+{
+    x / note::CONSTANT % 2 == 1
+}
+
+// A note of a variable, or of the read of one.
+pub fn of_variable(x: u32) -> bool
+    ensures { λ r. ⌜ r ≡ eqb (x / 256 % 2) 1 ⌝ }
+{
+    x / note::VARIABLE % 2 == 1
+}
+
+// The type of node n.
+pub fn type_of(l: &Lists, n: usize) -> u32
+    requires { ⌜ (n < 512) × (n < length (column (map (λ x. now x) (now l)) 1)) ⌝ }
+    ensures { λ r. ⌜ r ≡ word (column (map (λ x. now x) (now (l .entry))) 1) n % 128 ⌝ }
+{
+    type_in(noted(l, n))
 }
 
 // What this pointer type, an entry, points to.
-fn target(l: &[&[u32]; 7], of: u32) -> u32
+fn target(l: &Lists, of: u32) -> u32
     requires { ⌜ (Known-ready known-type (map (λ x. now x) (now l)) of) × (2 ≤ of) ⌝ }
     ensures { λ r. ⌜ ((t : Words) → Known-word known-type t (map (λ x. now x) (now (l .entry))) of → r ≡ target t of) ⌝ }
 {
-    entry(l, 2, index(of) - 2)
+    entry(l, TARGETS, index(of) - 2)
 }
 
 // The record that the child of node n, a field, points to.
-fn record(l: &[&[u32]; 7], n: usize) -> usize
+fn record(l: &Lists, n: usize) -> usize
     requires { ⌜ Field-ready (map (λ x. now x) (now l)) n ⌝ }
     ensures { λ r. ⌜ ((t : Words) → Field-node t (map (λ x. now x) (now (l .entry))) n → r ≡ pointed-record t (node-type t (node-a t n))) ⌝ }
 {
-    index(target(l, type_of(l, child(l, n, 1))) - Table::RECORD)
+    index(target(l, type_of(l, child(l, n, A))) - Table::RECORD)
 }
 
 // The number, among the fields of all records, of node n, a field.
-fn number(l: &[&[u32]; 7], n: usize) -> usize
+fn number(l: &Lists, n: usize) -> usize
     requires { ⌜ Field-ready (map (λ x. now x) (now l)) n ⌝ }
     ensures { λ r. ⌜ ((t : Words) → Field-node t (map (λ x. now x) (now (l .entry))) n → r ≡ first-field t (pointed-record t (node-type t (node-a t n))) + node-b t n) ⌝ }
 {
-    index(entry(l, 4, record(l, n))) + child(l, n, 2)
+    index(entry(l, FIRSTS, record(l, n))) + child(l, n, B)
 }
 
 // How many words of the record stand before node n, a field.
-pub fn offset(l: &[&[u32]; 7], n: usize) -> u32
+pub fn offset(l: &Lists, n: usize) -> u32
     requires { ⌜ Field-ready (map (λ x. now x) (now l)) n ⌝ }
     ensures { λ r. ⌜ ((t : Words) → Field-node t (map (λ x. now x) (now (l .entry))) n → r ≡ field-offset t (pointed-record t (node-type t (node-a t n))) (node-b t n)) ⌝ }
 {
-    entry(l, 6, number(l, n))
+    entry(l, OFFSETS, number(l, n))
 }
 
 // How many words node n, a field, has.
-pub fn count(l: &[&[u32]; 7], n: usize) -> u32
+pub fn count(l: &Lists, n: usize) -> u32
     requires { ⌜ Field-ready (map (λ x. now x) (now l)) n ⌝ }
     ensures { λ r. ⌜ ((t : Words) → Field-node t (map (λ x. now x) (now (l .entry))) n → r ≡ field-count t (pointed-record t (node-type t (node-a t n))) (node-b t n)) ⌝ }
 {
-    entry(l, 3, 2 * number(l, n) + 1)
+    entry(l, FIELDS, 2 * number(l, n) + 1)
 }
 
 // The words of a record, or of a type.
-pub fn size_of(l: &[&[u32]; 7], x: u32) -> u32
+pub fn size_of(l: &Lists, x: u32) -> u32
     requires { ⌜ Known-ready known-target (map (λ x. now x) (now l)) x ⌝ }
     ensures { λ r. ⌜ ((t : Words) → Known-word known-target t (map (λ x. now x) (now (l .entry))) x → r ≡ size-of t x) ⌝ }
 {
     if x < Table::RECORD {
         return 1;
     }
-    entry(l, 5, index(x - Table::RECORD))
+    entry(l, SIZES, index(x - Table::RECORD))
 }
 
 // The words by which 1 moves a value of this type: those of the record that it points to, else one.
-pub fn step(l: &[&[u32]; 7], of: u32) -> u32
+pub fn step(l: &Lists, of: u32) -> u32
     requires { ⌜ Known-ready known-type (map (λ x. now x) (now l)) of ⌝ }
     ensures { λ r. ⌜ ((t : Words) → Known-word known-type t (map (λ x. now x) (now (l .entry))) of → r ≡ step-of t of) ⌝ }
 {

@@ -21,7 +21,6 @@ use Rattle.layout.specs.declared.Parsed.the-variants as parsed
 use Rattle.layout.specs.declared.Verdict as told
 use Rattle.layout.specs.declared.Verdict.the-variants as the
 use Rattle.layout.proofs.Laws.{or-else-pass, or-else-refuse, told-as, item-at}
-use Rattle.nodes.specs.Nodes.{note}
 use Rattle.words.proofs.Lists.{front-sets, zeros-from}
 use Rattle.registers.specs.Blocks.{memory, Holds, Registers-set, Alike, All-fit}
 use Rattle.registers.proofs.Blocks.{registers-alike}
@@ -199,7 +198,6 @@ module _ {t first sizes offsets notes : Words} {l : Table} (pr : Program t first
   -- The lists that the evaluator reads.
   lists-drop : {nodes-at pointers-at fields-at : ℕ} → length first ≡ 33 → length sizes ≡ 32 → length offsets ≡ 128 → length notes ≡ 512 → nodes-at ≡ l .nodes .at → pointers-at ≡ l .pointers .at → fields-at ≡ l .fields .at
       → Lists t (drop nodes-at t ∷ notes ∷ drop pointers-at t ∷ drop fields-at t ∷ first ∷ sizes ∷ offsets ∷ [])
-  unfolding note
   lists-drop {nodes-at} {pointers-at} {fields-at} first-length size-length offset-length notes-length hn hp hf =
       let fs = fields-stand in
       let ps = pointers-stand in
@@ -209,8 +207,8 @@ module _ {t first sizes offsets notes : Words} {l : Table} (pr : Program t first
         passed = passes-all;
         node-is = λ n j h k. getD-drop nodes-at t (n * 3 + j) 0 ∙ sym (item-at ns n j (nodes-at + (n * 3 + j)) (omega arith));
         node-room = omega (arith, length-drop nodes-at t, ns .extent, ns .total);
-        type-is = λ n h v. pr .left .noted n h ∙ rw v (omega arith);
-        type-room = omega (arith, ns .limited, ns .total);
+        note-is = pr .left .noted;
+        note-room = omega (arith, ns .limited, ns .total);
         target-is = λ i h. getD-drop pointers-at t i 0 ∙ sym (item-at ps i 0 (pointers-at + i) (omega arith));
         target-room = omega (arith, length-drop pointers-at t, ps .extent, ps .total);
         field-is = λ f h. getD-drop fields-at t (2 * f + 1) 0 ∙ sym (item-at fs f 1 (fields-at + (2 * f + 1)) (omega arith));
@@ -254,7 +252,7 @@ module _ {t first sizes offsets notes : Words} {l : Table} (pr : Program t first
       unfolding state
       first-length = ap length (begins .values) ∙ begin-inv call-begun .values-length
 
-      starts : Starts t v₁ b₁ e₁ u (state .log)
+      starts : Starts t (lists v₁ b₁ e₁) u (state .log)
       unfolding state
       starts = rw (first-length, ← same-state) (begin-inv call-begun)
 
@@ -267,7 +265,7 @@ module _ {t first sizes offsets notes : Words} {l : Table} (pr : Program t first
       call-executed x = rw (not-refused, same-state) (x .meets (state .log) starts)
 
 -- A run's ending, told as an answer.
-pub told-executed : {t vs bs es : Words} {u : ℕ} {e : Ended} {r : Answer} {vs′ bs′ es′ : Words} → commands.Executed t vs bs es u e vs′ bs′ es′ → answer-of r ≡ ended-of e
+pub told-executed : {t vs bs es : Words} {u : ℕ} {e : Ended} {r : Answer} {vs′ bs′ es′ : Words} → commands.Executed t (lists vs bs es) u e (lists vs′ bs′ es′) → answer-of r ≡ ended-of e
     → Executed t vs bs es u r vs′ bs′ es′
 told-executed h same =
     record { meets = λ log inv. let m = h .meets log inv in record { answer = same ∙ m .answer; values = m .values; bases = m .bases; ends = m .ends } }

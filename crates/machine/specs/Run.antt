@@ -54,9 +54,9 @@ pub record Startable (t : Words) (l : Table) (first sizes offsets notes : Words)
   pub program : Program t first sizes offsets notes
   pub layout-is : l ≡ layout t
   pub log : List Event
-  pub inv : Starts t vs bs es u log
+  pub inv : Starts t (lists vs bs es) u log
   pub most : length vs ≤ 65536
 
 -- The commands were run from these lists and this first unused word, and ended so, whatever the log at the start.
 pub record Executed (t vs bs es : Words) (u : ℕ) (r : Answer) (vs′ bs′ es′ : Words) : Type 0 where
-  pub meets : (log : List Event) → Starts t vs bs es u log → Is (result-of (commands-below t (count t commands) (state-of (lists vs bs es) u log))) r vs′ bs′ es′
+  pub meets : (log : List Event) → Starts t (lists vs bs es) u log → Is (result-of (commands-below t (count t commands) (state-of (lists vs bs es) u log))) r vs′ bs′ es′

@@ -10,8 +10,12 @@ ghost use Rattle.commands.specs.Execution.{ended-of};
 ghost use Rattle.machine.specs.Run.{answer-of, Is, Program, Can-begin, Has-begun, Startable, Executed};
 use arguments::check_arguments;
 use commands::Ended;
+use layout::Firsts;
+use layout::Notes;
+use layout::Offsets;
 use layout::Parsed;
 use layout::Section;
+use layout::Sizes;
 use layout::Table;
 use layout::Verdict;
 use registers::check_registers;
@@ -86,10 +90,10 @@ fn begin(
 fn run_commands<'a>(
     t: &'a [u32],
     layout: Table,
-    first: &'a [u32; 33],
-    sizes: &'a [u32; 32],
-    offsets: &'a [u32; 128],
-    notes: &'a [u32; 512],
+    first: &'a Firsts,
+    sizes: &'a Sizes,
+    offsets: &'a Offsets,
+    notes: &'a Notes,
     unused: u32,
     values: &mut [u32],
     bases: &mut [u32],
@@ -114,7 +118,7 @@ fn run_commands<'a>(
         &sizes[..],
         &offsets[..],
     ];
-    let e = commands::execute(
+    let e = lending::execute(
         t,
         section.at,
         narrow(section.count),
@@ -131,10 +135,10 @@ fn run_commands<'a>(
 fn run_checked<'a>(
     t: &'a [u32],
     layout: Table,
-    first: &'a [u32; 33],
-    sizes: &'a [u32; 32],
-    offsets: &'a [u32; 128],
-    notes: &'a [u32; 512],
+    first: &'a Firsts,
+    sizes: &'a Sizes,
+    offsets: &'a Offsets,
+    notes: &'a Notes,
     inputs: &[u32],
     registers: &[u32],
     values: &mut [u32],
@@ -175,10 +179,10 @@ fn run_checked<'a>(
 pub fn check(t: &[u32]) -> Verdict
     ensures { λ r. ⌜ verdict-of r ≡ check (now (t .entry)) ⌝ }
 {
-    let mut first = [0u32; 33];
-    let mut sizes = [0u32; 32];
-    let mut offsets = [0u32; 128];
-    let mut notes = [0u32; 512];
+    let mut first = [0u32; Table::RECORDS + 1];
+    let mut sizes = [0u32; Table::RECORDS];
+    let mut offsets = [0u32; Table::FIELDS];
+    let mut notes = [0u32; Table::NODES];
     match table::check(t, &mut first, &mut sizes, &mut offsets, &mut notes) {
         Parsed::Is(_) => Verdict::Passes,
         Parsed::Refused(n, p) => Verdict::Refused(n, p),
@@ -198,10 +202,10 @@ pub fn run(
     ensures safe { λ r. ⌜ Spatially-safe (now (t .entry)) (now (inputs .entry)) (now (registers .entry)) (now (values .entry)) (now (bases .entry)) (now (ends .entry)) ⌝ }
     ensures logged { λ r. ⌜ Log-believable (now (t .entry)) (now (inputs .entry)) (now (registers .entry)) (now (values .entry)) (now (bases .entry)) (now (ends .entry)) ⌝ }
 {
-    let mut first = [0u32; 33];
-    let mut sizes = [0u32; 32];
-    let mut offsets = [0u32; 128];
-    let mut notes = [0u32; 512];
+    let mut first = [0u32; Table::RECORDS + 1];
+    let mut sizes = [0u32; Table::RECORDS];
+    let mut offsets = [0u32; Table::FIELDS];
+    let mut notes = [0u32; Table::NODES];
     match table::check(t, &mut first, &mut sizes, &mut offsets, &mut notes) {
         Parsed::Is(l) => run_checked(
             t,

@@ -10,22 +10,24 @@ use lib.Dec.{eqb}
 use lib.ListN.{length, set, length-set}
 use lib.Seq.{getD-set-same, getD-set-other}
 use Rattle.semantics.specs.Words.{Words, word, if_then_else_}
-use Rattle.semantics.specs.Table.{nodes, count, item-place, item, known-type, Kind, field, unknown, Sort, neither, sort-of, operand-a, operand-b, child, children, type-rule, types-below, node-type, node-kind, node-a, node-b, pointed-record, points-to-record, kind-of}
+use Rattle.semantics.specs.Table.{nodes, count, item-place, item, known-type, Kind, field, read, unknown, Sort, neither, sort-of, Operand, operand-a, operand-b, child, children, type-rule, types-below, node-type, node-kind, node-a, node-b, pointed-record, points-to-record, kind-of}
+use Rattle.semantics.specs.Table as table
 use Rattle.semantics.specs.Check.{Verdict, passes, refused, _or-else_, require, each, same-sort, is-child, operand-fault, types-fit, deeper, node-fault, occurrences}
 use Rattle.semantics.proofs.Passed.{or-else-passes, require-passes, each-passes}
 use Rattle.semantics.proofs.Trees.{is-child-true, types-known}
 use Rattle.semantics.proofs.Depth.{shallow}
 use Rattle.layout.specs.Layout.{verdict-of}
 use Rattle.layout.specs.Lists.{by-verdict}
+use Rattle.layout.specs.Notes.{bits, note}
 use Rattle.layout.specs.declared.Verdict as answer
 use Rattle.layout.specs.declared.Verdict.the-variants as the
 use Rattle.layout.proofs.Laws.{require-holds, or-else-pass, or-else-assoc}
-use Rattle.nodes.specs.Nodes.{typed-by, type-found, kind-fault, typed-kind, known-fault, field-found, sort-number, note}
+use Rattle.nodes.specs.Nodes.{typed-by, type-found, kind-fault, typed-kind, known-fault, field-found, read-bit}
 use Rattle.nodes.specs.Promises.{Placed, Reached, typed-verdict, Small, note-added, Counted, Countable, Countable-both, Room, Told, Noted}
 use Rattle.nodes.specs.declared.Typed.{Typed}
 use Rattle.nodes.specs.declared.Typed.the-variants.{Is, Refused}
 use Rattle.nodes.proofs.Lookups.{few-pointers}
-use Rattle.nodes.proofs.Sorts.{child-known, child-type, child-same}
+use Rattle.nodes.proofs.Sorts.{child-known, child-type, child-same, read-bits}
 
 -- What an answer of a verdict's form says of the verdict.
 pub verdict-refuses : {r : answer.Verdict} {v : Verdict} {n p : ℕ} → verdict-of r ≡ v → r ≡ the.Refused n p → v ≡ refused n p
@@ -98,6 +100,13 @@ module _ {t notes : Words} {n place : ℕ} (h : Reached t notes n place) where
 
 -- ---- the whole node
 
+-- Word x at p, an operand of node n, is to be a child of sort σ.
+abbrev Child-word : Words → ℕ → Operand → ℕ → ℕ → Sort → Type 0
+Child-word t n o x p σ = operand-fault t n o x p ≡ require (is-child t σ n x) 7 p
+
+word-child : (t : Words) (n : ℕ) (o : Operand) (x p : ℕ) (σ : Sort) → Child-word t n o x p σ → operand-fault t n o x p ≡ passes → (x < n) × (σ ≡ sort-of (node-kind t x))
+word-child t n o x p σ e q = is-child-true t σ n x (require-passes (is-child t σ n x) 7 p (sym e ∙ q))
+
 pub counted-none : (used : Words) → Counted used used []
 counted-none used = record { all = refl; more = λ i. omega arith }
 
@@ -150,16 +159,17 @@ module _ {t notes : Words} {n place : ℕ} (h : Reached t notes n place) where
     unfolding typed-kind
     verdict-same = rw (q, same-fault) (verdict-is (kind-fault t n k (word t (place + 1)) (word t (place + 2))) (type-found t n k (word t (place + 1)) (word t (place + 2))))
 
-    note-is : (notes₀ : Words) → note-added x (word t place) n notes₀ ≡ by-verdict (node-fault t n) (set notes₀ n (note t n)) notes₀
+    -- The bits of its note are asked where it passes.
+    note-is : {mark : ℕ} → (typed-verdict x ≡ passes → mark ≡ bits k (item t nodes (word t (place + 1)) 0)) → note-added x mark n notes ≡ by-verdict (node-fault t n) (set notes n (note t n)) notes
     unfolding typed-kind note node-type type-rule
-    note-is notes₀ =
-        rw (q, same-fault, kind-at, a-at, b-at, e) (note-by (kind-fault t n k (word t (place + 1)) (word t (place + 2))) (type-found t n k (word t (place + 1)) (word t (place + 2))) k e)
+    note-is {mark} m =
+        rw (q, same-fault, kind-at, a-at, b-at, e) (note-by (kind-fault t n k (word t (place + 1)) (word t (place + 2))) (type-found t n k (word t (place + 1)) (word t (place + 2))) (λ p. m (verdict-same ∙ same-fault ∙ p)))
       where
-        note-by : (v : Verdict) (ty : ℕ) (k : Kind) → kind-of (word t place) ≡ k → note-added (typed-by v ty) (word t place) n notes₀ ≡ by-verdict v (set notes₀ n (ty + sort-number (sort-of k))) notes₀
-        note-by passes ty k e = rw e
-        note-by (refused a b) ty k e = refl
+        note-by : (v : Verdict) (ty : ℕ) {bit : ℕ} → (v ≡ passes → mark ≡ bit) → note-added (typed-by v ty) mark n notes ≡ by-verdict v (set notes n (ty + bit)) notes
+        note-by passes ty h = rw (h refl)
+        note-by (refused a b) ty h = refl
 
-    pub small-type : Small x
+    small-type : Small x
     unfolding typed-kind known-type node-type type-rule each
     small-type =
         record {
@@ -174,35 +184,47 @@ module _ {t notes : Words} {n place : ℕ} (h : Reached t notes n place) where
         each-more : node-fault t n ≡ passes → (i : ℕ) → i < suc n → node-fault t i ≡ passes
         each-more p = each-passes (suc n) (node-fault t) (both-pass (h .noted-to .nodes-pass) p)
 
-    pub noted : {l : Words} {r : answer.Verdict} {notes′ used used′ : Words} → l ≡ child (operand-a k) (word t (place + 1)) ++ child (operand-b k) (word t (place + 2))
-        → Told x (word t place) n l r notes notes′ used used′ → Noted t n r notes notes′ used used′
+    pub noted : {mark : ℕ} {l : Words} {r : answer.Verdict} {notes′ used used′ : Words} → Told x mark n l r notes notes′ used used′ → l ≡ child (operand-a k) (word t (place + 1)) ++ child (operand-b k) (word t (place + 2))
+        → (typed-verdict x ≡ passes → mark ≡ bits k (item t nodes (word t (place + 1)) 0)) → Noted t n r notes notes′ used used′
     unfolding children
-    noted hl told =
+    noted told hl m =
         record {
           verdict = told .verdict ∙ verdict-same;
-          noted = told .noted ∙ note-is notes;
+          noted = told .noted ∙ note-is m;
           counted = rw (kind-at, a-at, b-at, e, ← hl) (rw verdict-same at (told .counted));
         }
 
-    -- What passes has the child a, whose uses can be counted.
-    pub child-a : (σ : Sort) → operand-fault t n (operand-a k) (word t (place + 1)) (item-place t nodes n 1) ≡ require (is-child t σ n (word t (place + 1))) 7 (item-place t nodes n 1) → typed-verdict x ≡ passes → word t (place + 1) < n
+    -- What passes has the child a, and the child b where its kind has one.
+    words-pass : typed-verdict x ≡ passes → (operand-fault t n (operand-a k) (word t (place + 1)) (item-place t nodes n 1) ≡ passes) × (operand-fault t n (operand-b k) (word t (place + 2)) (item-place t nodes n 2) ≡ passes)
     unfolding kind-fault
-    child-a σ o p =
-        is-child-true t σ n (word t (place + 1))
-        (require-passes (is-child t σ n (word t (place + 1))) 7 (item-place t nodes n 1) (sym o ∙ or-else-passes (operand-fault t n (operand-a k) (word t (place + 1)) (item-place t nodes n 1)) _ (sym same-fault ∙ sym verdict-same ∙ p) .0)) .0
+    words-pass p =
+        let r = or-else-passes (operand-fault t n (operand-a k) (word t (place + 1)) (item-place t nodes n 1)) _ (sym same-fault ∙ sym verdict-same ∙ p) in
+        (r .0, or-else-passes (operand-fault t n (operand-b k) (word t (place + 2)) (item-place t nodes n 2)) _ (r .1) .0)
 
-    pub child-b : (σ : Sort) → operand-fault t n (operand-b k) (word t (place + 2)) (item-place t nodes n 2) ≡ require (is-child t σ n (word t (place + 2))) 7 (item-place t nodes n 2) → typed-verdict x ≡ passes → word t (place + 2) < n
-    unfolding kind-fault
-    child-b σ o p =
-        is-child-true t σ n (word t (place + 2))
-        (require-passes (is-child t σ n (word t (place + 2))) 7 (item-place t nodes n 2)
-        (sym o ∙ or-else-passes (operand-fault t n (operand-b k) (word t (place + 2)) (item-place t nodes n 2)) _ (or-else-passes (operand-fault t n (operand-a k) (word t (place + 1)) (item-place t nodes n 1)) _ (sym same-fault ∙ sym verdict-same ∙ p) .1) .0)) .0
+    pub child-a : (σ : Sort) → Child-word t n (operand-a k) (word t (place + 1)) (item-place t nodes n 1) σ → typed-verdict x ≡ passes → (word t (place + 1) < n) × (σ ≡ sort-of (node-kind t (word t (place + 1))))
+    child-a σ o p = word-child t n (operand-a k) (word t (place + 1)) (item-place t nodes n 1) σ o (words-pass p .0)
 
-pub countable : {notes used : Words} {n x : ℕ} → Room notes used → n < 512 → x < n → Countable used x
-countable {x = x} h few less = record { room = h .uses-length; inside = omega arith; few = omega (arith, h .few x) }
+    -- What is required to note a node, and to count the uses of its children.
+    module _ {used : Words} (room : Room notes used) where
+      pub ready : (n < 512) × Small x × (length notes ≡ 512)
+      ready = (h .few, small-type, room .notes-length)
 
-pub countable-both : {notes used : Words} {n x y : ℕ} → Room notes used → n < 512 → x < n → y < n → Countable-both used x y
-countable-both {y = y} h few less less′ = record { first = countable h few less; inside = omega arith; few = h .few y }
+      countable : {y : ℕ} → y < n → Countable used y
+      countable {y} less = record { room = room .uses-length; inside = omega (arith, h .few); few = omega (arith, room .few y) }
+
+      module _ (σ : Sort) (o : Child-word t n (operand-a k) (word t (place + 1)) (item-place t nodes n 1) σ) where
+        pub child-ready : (n < 512) × Small x × (length notes ≡ 512) × (typed-verdict x ≡ passes → Countable used (word t (place + 1)))
+        child-ready = (h .few, small-type, room .notes-length, λ p. countable (child-a σ o p .0))
+
+        pub children-ready : Child-word t n (operand-b k) (word t (place + 2)) (item-place t nodes n 2) σ
+            → (n < 512) × Small x × (length notes ≡ 512) × (typed-verdict x ≡ passes → Countable-both used (word t (place + 1)) (word t (place + 2)))
+        children-ready o′ =
+            (h .few, small-type, room .notes-length, λ p. record { first = countable (child-a σ o p .0); inside = countable (word-child t n (operand-b k) (word t (place + 2)) (item-place t nodes n 2) σ o′ (words-pass p .1) .0) .inside; few = room .few (word t (place + 2)) })
+
+  -- A read's bit is that of its place.
+  pub noted-read : {x : Typed} {r : answer.Verdict} {notes′ used used′ : Words} → kind-of (word t place) ≡ read → x ≡ typed-kind t n read (word t (place + 1)) (word t (place + 2))
+      → Told x (read-bit (word notes (word t (place + 1)))) n (word t (place + 1) ∷ []) r notes notes′ used used′ → Noted t n r notes notes′ used used′
+  noted-read e q told = noted read e refl q told refl (λ p. let c = child-a read e refl q table.place refl p in read-bits (h .noted-to) (word t (place + 1)) (c .0) (sym (c .1)))
 
 pub counted-one : (used : Words) (x i v : ℕ) → i ≡ x → x < length used → v ≡ word used i + 1 → Counted used (set used i v) (x ∷ [])
 counted-one used x i v e h q = record { all = length-set used i v; more = λ j. go j (ℕ-discrete j i) }
@@ -224,26 +246,26 @@ countable-next {used} {used′} {x} {y} h more = record { room = more .all ∙ h
 
 -- ---- telling an answer
 
-module _ {x : Typed} {kind n : ℕ} where
-  pub told-refused : {r p : ℕ} {l notes used : Words} → x ≡ Refused r p → Told x kind n l (the.Refused r p) notes notes used used
+module _ {x : Typed} {mark n : ℕ} where
+  pub told-refused : {r p : ℕ} {l notes used : Words} → x ≡ Refused r p → Told x mark n l (the.Refused r p) notes notes used used
   told-refused {used = used} e = record { verdict = rw e; noted = rw e; counted = rw e (counted-none used) }
 
   -- What was told before uses are counted stays so.
-  pub told-more : {v : answer.Verdict} {l l′ notes notes′ used used₁ used₂ used₃ : Words} → Told x kind n l v notes notes′ used used₁ → v ≡ the.Passes → Counted used₂ used₃ l′
-      → Told x kind n l′ the.Passes notes notes′ used₂ used₃
+  pub told-more : {v : answer.Verdict} {l l′ notes notes′ used used₁ used₂ used₃ : Words} → Told x mark n l v notes notes′ used used₁ → v ≡ the.Passes → Counted used₂ used₃ l′
+      → Told x mark n l′ the.Passes notes notes′ used₂ used₃
   told-more t e more =
       let passed = ap verdict-of (sym e) ∙ t .verdict in
       record { verdict = passed; noted = t .noted; counted = rw (← passed) more }
 
-  pub told-is : {v ty : ℕ} {notes used : Words} → x ≡ Is ty → v ≡ ty + sort-number (sort-of (kind-of kind)) → Told x kind n [] the.Passes notes (set notes n v) used used
+  pub told-is : {v ty : ℕ} {notes used : Words} → x ≡ Is ty → v ≡ ty + mark → Told x mark n [] the.Passes notes (set notes n v) used used
   told-is {used = used} e q = record { verdict = rw e; noted = rw (e, q); counted = rw e (counted-none used) }
 
-  pub told-other : {r p : ℕ} {v : answer.Verdict} {l l′ notes notes′ used used′ : Words} → Told x kind n l v notes notes′ used used′ → v ≡ the.Refused r p
-      → Told x kind n l′ (the.Refused r p) notes notes′ used used′
+  pub told-other : {r p : ℕ} {v : answer.Verdict} {l l′ notes notes′ used used′ : Words} → Told x mark n l v notes notes′ used used′ → v ≡ the.Refused r p
+      → Told x mark n l′ (the.Refused r p) notes notes′ used used′
   told-other t e =
       let refuses = ap verdict-of (sym e) ∙ t .verdict in
       record { verdict = refuses; noted = t .noted; counted = rw (← refuses) (rw (← refuses) at (t .counted)) }
 
   -- The children are counted where the answer is a type.
-  pub told-counted : {v : answer.Verdict} {l notes notes′ used used′ : Words} → Told x kind n l v notes notes′ used used′ → typed-verdict x ≡ passes → Counted used used′ l
+  pub told-counted : {v : answer.Verdict} {l notes notes′ used used′ : Words} → Told x mark n l v notes notes′ used used′ → typed-verdict x ≡ passes → Counted used used′ l
   told-counted t e = rw e at (t .counted)

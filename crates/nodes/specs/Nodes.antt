@@ -1,22 +1,23 @@
--- What the check of a node answers: a refusal, or the node's type; and what is noted of a node that passes.
-use Prim.Native.Nat.{ℕ, _+_}
+-- What the check of a node answers: a refusal, or the node's type; and what it asks of a note.
+use Prim.Native.Nat.{ℕ, _*_, _/_, _%_}
 use mathlib.Core.Bool.{not}
 use lib.Dec.{ltb}
 use Rattle.semantics.specs.Words.{Words, word}
-use Rattle.semantics.specs.Table.{nodes, item-place, field-total, field-type, Kind, Sort, place, value, neither, sort-of, operand-a, operand-b, node-kind, type-by-kind, types-below, node-type}
+use Rattle.semantics.specs.Table.{nodes, item-place, field-total, field-type, Kind, Sort, place, value, neither, sort-of, operand-a, operand-b, type-by-kind, types-below}
 use Rattle.semantics.specs.Check.{Verdict, passes, refused, _or-else_, require, same-sort, operand-fault, types-fit}
+use Rattle.layout.specs.Notes.{variable-bit, place-bit}
 use Rattle.nodes.specs.declared.Typed.{Typed}
 use Rattle.nodes.specs.declared.Typed.the-variants.{Is, Refused}
 
--- What a note has beside the type, which is below 128.
+-- What is asked of a node's note: the bit that tells its sort. No node that passes is of sort neither.
 abbrev pub sort-number : Sort → ℕ
 sort-number value = 0
-sort-number place = 128
-sort-number neither = 256
+sort-number place = place-bit
+sort-number neither = 1
 
--- The note of node n.
-unfoldable pub note : Words → ℕ → ℕ
-note t n = node-type t n + sort-number (sort-of (node-kind t n))
+-- The bits of a read whose place has the note v.
+abbrev pub read-bit : ℕ → ℕ
+read-bit v = v % place-bit / variable-bit * variable-bit
 
 -- The answer where the check says v and the type is ty.
 abbrev pub typed-by : Verdict → ℕ → Typed

@@ -5,17 +5,17 @@ use mathlib.Core.Path.{_≡_}
 use mathlib.Core.List.{[]}
 use lib.ListN.{length, set}
 use Rattle.semantics.specs.Words.{Words, word}
-use Rattle.semantics.specs.Table.{records, fields, pointers, variables, nodes, count-place, count, item-place, known-type, first-field, sort-of, kind-of, children}
+use Rattle.semantics.specs.Table.{records, fields, pointers, variables, nodes, count-place, count, item-place, known-type, first-field, children}
 use Rattle.semantics.specs.Check.{Verdict, passes, refused, each, node-fault, occurrences}
 use Rattle.semantics.proofs.Passed.{Types-passed}
 use Rattle.layout.specs.Layout.{verdict-of, Stands}
 use Rattle.layout.specs.Lists.{by-verdict}
 use Rattle.layout.specs.Types.{Tabulated, Marks}
+use Rattle.layout.specs.Notes.{note}
 use Rattle.layout.specs.declared.Section.{Section}
 use Rattle.layout.specs.declared.Verdict as answer
 use Rattle.nodes.specs.declared.Typed.{Typed}
 use Rattle.nodes.specs.declared.Typed.the-variants.{Is, Refused}
-use Rattle.nodes.specs.Nodes.{sort-number, note}
 
 -- The types in sections 1 to 4 and the nodes before n pass, and the list has the notes of these nodes.
 pub record Noted-to (t notes : Words) (n : ℕ) : Type 0 where
@@ -71,10 +71,10 @@ typed-verdict (Refused n p) = refused n p
 pub record Small (x : Typed) : Type 0 where
   pub type-small : (ty : ℕ) → x ≡ Is ty → ty < 128
 
--- The list with the note of node n, of a kind with this number, where the answer is a type; else as it was.
+-- The list with the note of node n, which has these bits, where the answer is a type; else as it was.
 abbrev pub note-added : Typed → ℕ → ℕ → Words → Words
-note-added (Is ty) kind n notes = set notes n (ty + sort-number (sort-of (kind-of kind)))
-note-added (Refused r p) kind n notes = notes
+note-added (Is ty) mark n notes = set notes n (ty + mark)
+note-added (Refused r p) mark n notes = notes
 
 -- Each count rises by the occurrences in the list.
 pub record Counted (used used′ l : Words) : Type 0 where
@@ -99,11 +99,11 @@ pub record Room (notes used : Words) : Type 0 where
   pub uses-length : length used ≡ 512
   pub few : (i : ℕ) → word used i < 4095
 
--- The answer x to a node of a kind with this number is told. Where it is a type, the node's note is added and its uses of the children l are
+-- The answer x to a node whose note has these bits is told. Where it is a type, the node's note is added and its uses of the children l are
 -- counted; where it is a refusal, no word has changed.
-pub record Told (x : Typed) (kind n : ℕ) (l : Words) (r : answer.Verdict) (notes notes′ used used′ : Words) : Type 0 where
+pub record Told (x : Typed) (mark n : ℕ) (l : Words) (r : answer.Verdict) (notes notes′ used used′ : Words) : Type 0 where
   pub verdict : verdict-of r ≡ typed-verdict x
-  pub noted : notes′ ≡ note-added x kind n notes
+  pub noted : notes′ ≡ note-added x mark n notes
   pub counted : Counted used used′ (by-verdict (typed-verdict x) l [])
 
 -- The whole check of node n: where it passes, its note is added and its uses of children are counted; where it doesn't, no word has changed.

@@ -1,4 +1,4 @@
-// The check of one node: its verdict, the note of its type and sort, and its uses of other nodes.
+// The check of one node: its verdict, its note, and its uses of other nodes.
 // Parameters: `records` and `pointers` are counts; `targets` and `fields` are the places of the first pointer and the first field;
 // `place` is that of node `n`, whose two other words are `a` and `b`; `notes` has the notes of the nodes before it.
 ghost use mathlib.Core.Path.{_≡_};
@@ -8,24 +8,23 @@ ghost use Prim.Native.Nat.{ℕ, _+_, _<_, _≤_, _^_, _%_};
 ghost use lib.Dec.{eqb};
 ghost use lib.ListN.{length};
 ghost use Rattle.semantics.specs.Words.{Words, word};
-ghost use Rattle.semantics.specs.Table.{count-place, count, target, Sort, sort-of, kind-of, deref, field, variable, constant, sum, read, address, cast, size, malloc};
+ghost use Rattle.semantics.specs.Table.{count-place, count, target, Sort, deref, field, variable, constant, sum, read, address, cast, size, malloc};
 ghost use Rattle.semantics.specs.Check.{passes, require, _or-else_, is-child};
 ghost use Rattle.layout.specs.Layout.{verdict-of, Stands};
 ghost use Rattle.layout.specs.Types.{Marks};
 ghost use Rattle.layout.specs.declared.Verdict.the-variants.{Passes};
-ghost use Rattle.nodes.specs.Nodes.{sort-number, typed-kind, field-found};
+ghost use Rattle.nodes.specs.Nodes.{sort-number, read-bit, typed-kind, field-found};
 ghost use Rattle.nodes.specs.Promises.{Noted-to, Placed, Reached, Reaches, Target-at, Fields-at, Lookups, typed-verdict, Small, Counted, Countable, Countable-both, Room, Told, Noted};
+use layout::Entries;
+use layout::Firsts;
+use layout::Notes;
 use layout::Section;
 use layout::Table;
+use layout::Uses;
 use layout::Verdict;
+use layout::kind;
+use layout::note;
 use words::index;
-
-// A note is a type and the sort of the node's kind. Types are below 128.
-pub const VALUE: u32 = 0;
-
-pub const PLACE: u32 = 128;
-
-const NEITHER: u32 = 256;
 
 // Types: int, then the pointer to void, then the pointer entries.
 const INT: u32 = 0;
@@ -40,19 +39,8 @@ pub enum Typed {
     Refused(u32, usize),
 }
 
-// Whether a kind is a place's, a value's or neither.
-fn sort(kind: u32) -> u32
-    ensures { λ r. ⌜ r ≡ sort-number (sort-of (kind-of kind)) ⌝ }
-{
-    match kind {
-        1..=3 => PLACE,
-        4..=10 => VALUE,
-        _ => NEITHER,
-    }
-}
-
 // x is a node below n of the sort wanted.
-pub fn is_child(notes: &[u32; 512], n: usize, x: u32, wanted: u32) -> bool
+pub fn is_child(notes: &Notes, n: usize, x: u32, wanted: u32) -> bool
     requires { ⌜ n ≤ 512 ⌝ }
     ensures below { λ r. ⌜ (r ≡ true → x < n) ⌝ }
     ensures sorted { λ r. ⌜ ((t : Words) (s : Sort) → Noted-to t (now (notes .entry)) n → wanted ≡ sort-number s → r ≡ is-child t s n x) ⌝ }
@@ -61,22 +49,22 @@ pub fn is_child(notes: &[u32; 512], n: usize, x: u32, wanted: u32) -> bool
     if n <= i {
         return false;
     }
-    if notes[i] < PLACE {
-        return wanted == VALUE;
+    if notes[i] < note::PLACE {
+        return wanted == note::VALUE;
     }
-    wanted == PLACE
+    wanted == note::PLACE
 }
 
 // The type in a note.
-pub fn type_of(notes: &[u32; 512], x: u32) -> u32
+pub fn type_of(notes: &Notes, x: u32) -> u32
     requires { ⌜ x < 512 ⌝ }
     ensures { λ r. ⌜ r ≡ word (now (notes .entry)) x % 128 ⌝ }
 {
-    notes[index(x)] % PLACE
+    notes[index(x)] % note::CONSTANT
 }
 
 // 7 for an a that is no child of the sort wanted, then for a b that isn't 0.
-fn only_child(notes: &[u32; 512], n: usize, place: usize, a: u32, b: u32, wanted: u32) -> Verdict
+fn only_child(notes: &Notes, n: usize, place: usize, a: u32, b: u32, wanted: u32) -> Verdict
     requires { ⌜ (n ≤ 512) × (place + 2 < 2 ^ 64) ⌝ }
     ensures below { λ r. ⌜ (r ≡ Passes → a < n) ⌝ }
     ensures faults { λ r. ⌜ ((t : Words) (s : Sort) → Noted-to t (now (notes .entry)) n → wanted ≡ sort-number s → verdict-of r ≡ require (is-child t s n a) 7 (place + 1) or-else require (eqb b 0) 7 (place + 2)) ⌝ }
@@ -116,19 +104,11 @@ fn variable(t: &[u32], variables: Section, place: usize, a: u32, b: u32) -> Type
     Typed::Is(t[at + i])
 }
 
-fn deref(
-    t: &[u32],
-    notes: &[u32; 512],
-    targets: usize,
-    n: usize,
-    place: usize,
-    a: u32,
-    b: u32,
-) -> Typed
+fn deref(t: &[u32], notes: &Notes, targets: usize, n: usize, place: usize, a: u32, b: u32) -> Typed
     requires { ⌜ (Reached (now t) (now notes) n place) × (targets ≡ count-place (now t) 2 + 1) ⌝ }
     ensures { λ r. ⌜ r ≡ typed-kind (now (t .entry)) n deref a b ⌝ }
 {
-    if let Verdict::Refused(r, p) = only_child(notes, n, place, a, b, VALUE) {
+    if let Verdict::Refused(r, p) = only_child(notes, n, place, a, b, note::VALUE) {
         return Typed::Refused(r, p);
     }
     let pointer = type_of(notes, a);
@@ -143,14 +123,7 @@ fn deref(
 }
 
 // Field b of record r, or 8.
-fn record_field(
-    t: &[u32],
-    first: &[u32; 33],
-    fields: usize,
-    r: usize,
-    place: usize,
-    b: u32,
-) -> Typed
+fn record_field(t: &[u32], first: &Firsts, fields: usize, r: usize, place: usize, b: u32) -> Typed
     requires { ⌜ (Fields-at (now t) (now first) fields) × (r < count (now t) 0) ⌝ }
     ensures { λ x. ⌜ x ≡ field-found (now (t .entry)) r b place ⌝ }
 {
@@ -163,8 +136,8 @@ fn record_field(
 
 fn field(
     t: &[u32],
-    notes: &[u32; 512],
-    first: &[u32; 33],
+    notes: &Notes,
+    first: &Firsts,
     fields: usize,
     targets: usize,
     n: usize,
@@ -175,7 +148,7 @@ fn field(
     requires { ⌜ (Reached (now t) (now notes) n place) × (targets ≡ count-place (now t) 2 + 1) × (Fields-at (now t) (now first) fields) ⌝ }
     ensures { λ r. ⌜ r ≡ typed-kind (now (t .entry)) n field a b ⌝ }
 {
-    if !is_child(notes, n, a, VALUE) {
+    if !is_child(notes, n, a, note::VALUE) {
         return Typed::Refused(7, place + 1);
     }
     let pointer = type_of(notes, a);
@@ -199,14 +172,14 @@ fn constant(place: usize, a: u32, b: u32) -> Typed
     Typed::Is(INT)
 }
 
-fn sum(notes: &[u32; 512], n: usize, place: usize, a: u32, b: u32) -> Typed
+fn sum(notes: &Notes, n: usize, place: usize, a: u32, b: u32) -> Typed
     requires { ⌜ (n ≤ 512) × (place + 2 < 2 ^ 64) ⌝ }
     ensures { λ r. ⌜ ((t : Words) → Reached t (now (notes .entry)) n place → r ≡ typed-kind t n sum a b) ⌝ }
 {
-    if !is_child(notes, n, a, VALUE) {
+    if !is_child(notes, n, a, note::VALUE) {
         return Typed::Refused(7, place + 1);
     }
-    if !is_child(notes, n, b, VALUE) {
+    if !is_child(notes, n, b, note::VALUE) {
         return Typed::Refused(7, place + 2);
     }
     if type_of(notes, b) != INT {
@@ -215,21 +188,21 @@ fn sum(notes: &[u32; 512], n: usize, place: usize, a: u32, b: u32) -> Typed
     Typed::Is(type_of(notes, a))
 }
 
-fn read(notes: &[u32; 512], n: usize, place: usize, a: u32, b: u32) -> Typed
+fn read(notes: &Notes, n: usize, place: usize, a: u32, b: u32) -> Typed
     requires { ⌜ (n ≤ 512) × (place + 2 < 2 ^ 64) ⌝ }
     ensures { λ r. ⌜ ((t : Words) → Reached t (now (notes .entry)) n place → r ≡ typed-kind t n read a b) ⌝ }
 {
-    if let Verdict::Refused(r, p) = only_child(notes, n, place, a, b, PLACE) {
+    if let Verdict::Refused(r, p) = only_child(notes, n, place, a, b, note::PLACE) {
         return Typed::Refused(r, p);
     }
     Typed::Is(type_of(notes, a))
 }
 
-fn address(notes: &[u32; 512], entry: &[u32; 98], n: usize, place: usize, a: u32, b: u32) -> Typed
+fn address(notes: &Notes, entry: &Entries, n: usize, place: usize, a: u32, b: u32) -> Typed
     requires { ⌜ (Reaches (now notes) n place) × (place + 2 < 2 ^ 64) ⌝ }
     ensures { λ r. ⌜ ((t : Words) → Reached t (now (notes .entry)) n place → Marks t (now (entry .entry)) (count t 2) → r ≡ typed-kind t n address a b) ⌝ }
 {
-    if let Verdict::Refused(r, p) = only_child(notes, n, place, a, b, PLACE) {
+    if let Verdict::Refused(r, p) = only_child(notes, n, place, a, b, note::PLACE) {
         return Typed::Refused(r, p);
     }
     let ty = entry[layout::target_slot(type_of(notes, a))];
@@ -240,11 +213,11 @@ fn address(notes: &[u32; 512], entry: &[u32; 98], n: usize, place: usize, a: u32
     Typed::Is(ty)
 }
 
-fn cast(notes: &[u32; 512], pointers: usize, n: usize, place: usize, a: u32, b: u32) -> Typed
+fn cast(notes: &Notes, pointers: usize, n: usize, place: usize, a: u32, b: u32) -> Typed
     requires { ⌜ (n ≤ 512) × (pointers ≤ 64) × (place + 2 < 2 ^ 64) ⌝ }
     ensures { λ r. ⌜ ((t : Words) → Reached t (now (notes .entry)) n place → pointers ≡ count t 2 → r ≡ typed-kind t n cast a b) ⌝ }
 {
-    if !is_child(notes, n, a, VALUE) {
+    if !is_child(notes, n, a, note::VALUE) {
         return Typed::Refused(7, place + 1);
     }
     if !layout::known_type(pointers, b) {
@@ -266,11 +239,11 @@ fn size(records: usize, pointers: usize, place: usize, a: u32, b: u32) -> Typed
     Typed::Is(INT)
 }
 
-fn malloc(notes: &[u32; 512], n: usize, place: usize, a: u32, b: u32) -> Typed
+fn malloc(notes: &Notes, n: usize, place: usize, a: u32, b: u32) -> Typed
     requires { ⌜ (n ≤ 512) × (place + 2 < 2 ^ 64) ⌝ }
     ensures { λ r. ⌜ ((t : Words) → Reached t (now (notes .entry)) n place → r ≡ typed-kind t n malloc a b) ⌝ }
 {
-    if let Verdict::Refused(r, p) = only_child(notes, n, place, a, b, VALUE) {
+    if let Verdict::Refused(r, p) = only_child(notes, n, place, a, b, note::VALUE) {
         return Typed::Refused(r, p);
     }
     if type_of(notes, a) != INT {
@@ -279,10 +252,11 @@ fn malloc(notes: &[u32; 512], n: usize, place: usize, a: u32, b: u32) -> Typed
     Typed::Is(VOID)
 }
 
-// The functions below tell a node's answer. Where it has a type, they note it and count the uses of the node's children.
+// The functions below tell a node's answer. Where it has a type, they note it with the bits `mark` and count the uses of the node's
+// children.
 
 // Counts one more use of node x.
-pub fn count_use(uses: &mut [u32; 512], x: u32)
+pub fn count_use(uses: &mut Uses, x: u32)
     requires { ⌜ Countable (now uses) x ⌝ }
     ensures { λ r. ⌜ Counted (now (uses .entry)) (now (uses .exit)) (x ∷ []) ⌝ }
 {
@@ -290,31 +264,26 @@ pub fn count_use(uses: &mut [u32; 512], x: u32)
     uses[i] += 1;
 }
 
-fn enter(x: Typed, notes: &mut [u32; 512], kind: u32, n: usize) -> Verdict
+fn enter(x: Typed, notes: &mut Notes, n: usize, mark: u32) -> Verdict
     requires { ⌜ (n < 512) × Small x × (length (now notes) ≡ 512) ⌝ }
-    ensures { λ r. ⌜ ((used : Words) → Told x kind n [] r (now (notes .entry)) (now (notes .exit)) used used) ⌝ }
+    requires { ⌜ mark ≤ 1024 ⌝ }
+    ensures { λ r. ⌜ ((used : Words) → Told x mark n [] r (now (notes .entry)) (now (notes .exit)) used used) ⌝ }
 {
     match x {
         Typed::Is(ty) => {
-            notes[n] = ty + sort(kind);
+            notes[n] = ty + mark;
             Verdict::Passes
         }
         Typed::Refused(r, p) => Verdict::Refused(r, p),
     }
 }
 
-fn with_child(
-    x: Typed,
-    notes: &mut [u32; 512],
-    uses: &mut [u32; 512],
-    kind: u32,
-    n: usize,
-    a: u32,
-) -> Verdict
+fn with_child(x: Typed, notes: &mut Notes, uses: &mut Uses, n: usize, mark: u32, a: u32) -> Verdict
     requires { ⌜ (n < 512) × Small x × (length (now notes) ≡ 512) × (typed-verdict x ≡ passes → Countable (now uses) a) ⌝ }
-    ensures { λ r. ⌜ Told x kind n (a ∷ []) r (now (notes .entry)) (now (notes .exit)) (now (uses .entry)) (now (uses .exit)) ⌝ }
+    requires { ⌜ mark ≤ 1024 ⌝ }
+    ensures { λ r. ⌜ Told x mark n (a ∷ []) r (now (notes .entry)) (now (notes .exit)) (now (uses .entry)) (now (uses .exit)) ⌝ }
 {
-    if let Verdict::Refused(r, p) = enter(x, notes, kind, n) {
+    if let Verdict::Refused(r, p) = enter(x, notes, n, mark) {
         return Verdict::Refused(r, p);
     }
     count_use(uses, a);
@@ -323,30 +292,53 @@ fn with_child(
 
 fn with_children(
     x: Typed,
-    notes: &mut [u32; 512],
-    uses: &mut [u32; 512],
-    kind: u32,
+    notes: &mut Notes,
+    uses: &mut Uses,
     n: usize,
+    mark: u32,
     a: u32,
     b: u32,
 ) -> Verdict
     requires { ⌜ (n < 512) × Small x × (length (now notes) ≡ 512) × (typed-verdict x ≡ passes → Countable-both (now uses) a b) ⌝ }
-    ensures { λ r. ⌜ Told x kind n (a ∷ b ∷ []) r (now (notes .entry)) (now (notes .exit)) (now (uses .entry)) (now (uses .exit)) ⌝ }
+    requires { ⌜ mark ≤ 1024 ⌝ }
+    ensures { λ r. ⌜ Told x mark n (a ∷ b ∷ []) r (now (notes .entry)) (now (notes .exit)) (now (uses .entry)) (now (uses .exit)) ⌝ }
 {
-    if let Verdict::Refused(r, p) = with_child(x, notes, uses, kind, n, a) {
+    if let Verdict::Refused(r, p) = with_child(x, notes, uses, n, mark, a) {
         return Verdict::Refused(r, p);
     }
     count_use(uses, b);
     Verdict::Passes
 }
 
+// The bit of a read of place a: that of a variable, if it is one.
+fn variable_bit(notes: &Notes, a: u32) -> u32
+    requires { ⌜ a < 512 ⌝ }
+    ensures { λ r. ⌜ r ≡ read-bit (word (now (notes .entry)) a) ⌝ }
+{
+    notes[index(a)] % note::PLACE / note::VARIABLE * note::VARIABLE
+}
+
+// Only a read with a type has a place that is noted.
+fn with_read(x: Typed, notes: &mut Notes, uses: &mut Uses, n: usize, a: u32) -> Verdict
+    requires { ⌜ (n < 512) × Small x × (length (now notes) ≡ 512) × (typed-verdict x ≡ passes → Countable (now uses) a) ⌝ }
+    ensures { λ r. ⌜ Told x (read-bit (word (now (notes .entry)) a)) n (a ∷ []) r (now (notes .entry)) (now (notes .exit)) (now (uses .entry)) (now (uses .exit)) ⌝ }
+{
+    match x {
+        Typed::Is(ty) => {
+            let mark = variable_bit(notes, a);
+            with_child(Typed::Is(ty), notes, uses, n, mark, a)
+        }
+        Typed::Refused(r, p) => Verdict::Refused(r, p),
+    }
+}
+
 // Checks node n. A test for 12 is not needed: there are too few nodes for a path of more than 512.
 pub fn check_node(
     t: &[u32],
-    notes: &mut [u32; 512],
-    uses: &mut [u32; 512],
-    first: &[u32; 33],
-    entry: &[u32; 98],
+    notes: &mut Notes,
+    uses: &mut Uses,
+    first: &Firsts,
+    entry: &Entries,
     records: usize,
     fields: usize,
     pointers: Section,
@@ -361,28 +353,46 @@ pub fn check_node(
     let a = t[place + 1];
     let b = t[place + 2];
     match kind {
-        1 => enter(variable(t, variables, place, a, b), notes, kind, n),
-        2 => {
-            let x = deref(t, notes, pointers.at, n, place, a, b);
-            with_child(x, notes, uses, kind, n, a)
-        }
-        3 => {
-            let x = field(t, notes, first, fields, pointers.at, n, place, a, b);
-            with_child(x, notes, uses, kind, n, a)
-        }
-        4 => enter(constant(place, a, b), notes, kind, n),
-        5 => with_children(sum(notes, n, place, a, b), notes, uses, kind, n, a, b),
-        6 => with_child(read(notes, n, place, a, b), notes, uses, kind, n, a),
-        7 => {
-            let x = address(notes, entry, n, place, a, b);
-            with_child(x, notes, uses, kind, n, a)
-        }
-        8 => {
-            let x = cast(notes, pointers.count, n, place, a, b);
-            with_child(x, notes, uses, kind, n, a)
-        }
-        9 => enter(size(records, pointers.count, place, a, b), notes, kind, n),
-        10 => with_child(malloc(notes, n, place, a, b), notes, uses, kind, n, a),
+        kind::VARIABLE..=kind::FIELD => match kind {
+            kind::VARIABLE => {
+                let x = variable(t, variables, place, a, b);
+                enter(x, notes, n, note::PLACE + note::VARIABLE)
+            }
+            kind::DEREF => {
+                let x = deref(t, notes, pointers.at, n, place, a, b);
+                with_child(x, notes, uses, n, note::PLACE, a)
+            }
+            _ => {
+                let x = field(t, notes, first, fields, pointers.at, n, place, a, b);
+                with_child(x, notes, uses, n, note::PLACE, a)
+            }
+        },
+        // All seven are listed, so the compiler tests the range only once. A kind left over would be refused anyway.
+        kind::CONSTANT..=kind::MALLOC => match kind {
+            kind::CONSTANT => enter(constant(place, a, b), notes, n, note::CONSTANT),
+            kind::SUM => {
+                let x = sum(notes, n, place, a, b);
+                with_children(x, notes, uses, n, note::VALUE, a, b)
+            }
+            kind::READ => with_read(read(notes, n, place, a, b), notes, uses, n, a),
+            kind::ADDRESS => {
+                let x = address(notes, entry, n, place, a, b);
+                with_child(x, notes, uses, n, note::VALUE, a)
+            }
+            kind::CAST => {
+                let x = cast(notes, pointers.count, n, place, a, b);
+                with_child(x, notes, uses, n, note::VALUE, a)
+            }
+            kind::SIZE => {
+                let x = size(records, pointers.count, place, a, b);
+                enter(x, notes, n, note::VALUE)
+            }
+            kind::MALLOC => {
+                let x = malloc(notes, n, place, a, b);
+                with_child(x, notes, uses, n, note::VALUE, a)
+            }
+            _ => Verdict::Refused(7, place),
+        },
         _ => Verdict::Refused(7, place),
     }
 }

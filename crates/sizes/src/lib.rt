@@ -9,7 +9,10 @@ ghost use Rattle.layout.specs.Layout.{Stands};
 ghost use Rattle.layout.specs.Lists.{filled};
 ghost use Rattle.layout.specs.Types.{Tabulated, Record-in};
 ghost use Rattle.sizes.specs.Sizes.{sizes-noted, offsets-noted};
+use layout::Firsts;
+use layout::Offsets;
 use layout::Section;
+use layout::Sizes;
 use words::index;
 
 // How many words a field has.
@@ -22,7 +25,7 @@ fn words_of(t: &[u32], fields: Section, field: usize) -> u32
 }
 
 // The fields of record r: the number of its first, and how many there are.
-fn fields_of(first: &[u32; 33], r: usize) -> Section
+fn fields_of(first: &Firsts, r: usize) -> Section
     requires { ⌜ (r < 32) × (word (now first) r ≤ word (now first) (r + 1)) ⌝ }
     ensures { λ own. ⌜ ((t : Words) → Record-in t (now (first .entry)) r → (own .at ≡ first-field t r) × (own .count ≡ field-total t r)) ⌝ }
 {
@@ -32,7 +35,7 @@ fn fields_of(first: &[u32; 33], r: usize) -> Section
 }
 
 // The size of record r: its fields' words added up in one number, straight from the table, last field first.
-fn add_up(t: &[u32], fields: Section, first: &[u32; 33], r: usize) -> u32
+fn add_up(t: &[u32], fields: Section, first: &Firsts, r: usize) -> u32
     requires { ⌜ (Stands (now t) 1 fields) × (Record-in (now t) (now first) r) × (size-of (now t) (record-target r) < 2 ^ 32) ⌝ }
     ensures { λ sum. ⌜ sum ≡ size-of (now (t .entry)) (record-target r) ⌝ }
 {
@@ -50,7 +53,7 @@ fn add_up(t: &[u32], fields: Section, first: &[u32; 33], r: usize) -> u32
 }
 
 // Notes the offset of each field of record r, first field first: the words of those before it.
-fn note_offsets(t: &[u32], fields: Section, first: &[u32; 33], r: usize, offsets: &mut [u32; 128])
+fn note_offsets(t: &[u32], fields: Section, first: &Firsts, r: usize, offsets: &mut Offsets)
     requires { ⌜ (Stands (now t) 1 fields) × (Record-in (now t) (now first) r) × (size-of (now t) (record-target r) < 2 ^ 32) × (length (now offsets) ≡ 128) ⌝ }
     ensures { λ x. ⌜ now (offsets .exit) ≡ filled (now (offsets .entry)) (first-field (now (t .entry)) r) (field-total (now (t .entry)) r) (field-offset (now (t .entry)) r) ⌝ }
 {
@@ -71,9 +74,9 @@ pub fn note_sizes(
     t: &[u32],
     fields: Section,
     records: usize,
-    first: &[u32; 33],
-    sizes: &mut [u32; 32],
-    offsets: &mut [u32; 128],
+    first: &Firsts,
+    sizes: &mut Sizes,
+    offsets: &mut Offsets,
 )
     requires { ⌜ (Stands (now t) 1 fields) × (Types-passed (now t)) × (records ≡ count (now t) 0) × (Tabulated (now first) (count (now t) 0) (first-field (now t))) ⌝ }
     requires { ⌜ (length (now sizes) ≡ 32) × (length (now offsets) ≡ 128) ⌝ }

@@ -1,21 +1,21 @@
 -- What the functions that finish a node answer is what the rules' steps give.
 use Prim.Native.Nat.{ℕ, _+_, _*_, _%_, _≤_, _<_, _^_}
 use native.Mathlib.Nat.{lt-of-le-of-lt, le-of-lt, mul-le-mul-left, mul-lt-mul-of-pos-right}
-use mathlib.Core.Bool.{Bool, true, false, _&&_}
-use mathlib.Core.Path.{_≡_, refl, sym, _∙_}
-use mathlib.Core.List.{List}
+use mathlib.Core.Bool.{Bool, true, false}
+use mathlib.Core.Path.{_≡_, refl, sym, ap, subst, _∙_}
+use mathlib.Core.List.{List, []}
 use native.Mathlib.Omega.{arith}
 use borrow.Author.Tests.{le-leb, lt-leb, eq-eqb, ne-eqb, lt-ltb}
 use lib.Dec.{leb}
 use lib.ListN.{length}
+use Rattle.words.specs.Columns.{column}
 use Rattle.semantics.specs.Words.{Words, word}
 use Rattle.semantics.specs.Table.{is-pointer}
-use Rattle.semantics.specs.Rules.{Datum, unbounded, Location, variable-location, Event, State, Outcome, bind, in-bounds, checked, deref-step, field-step, touchable, contents, read-step, sum-step, cast-step, malloc-step}
+use Rattle.semantics.specs.Rules.{Datum, unbounded, Location, variable-location, Event, State, Outcome, ok, bind, in-bounds, checked, deref-step, field-step, touchable, contents, read-step, sum-step, cast-step, malloc-step}
 use Rattle.semantics.proofs.Tests.{in-bounds-true}
-use Rattle.semantics.proofs.Invariant.{Inv, permitted-used, Datum-ok, Location-ok, Good, good-ok}
+use Rattle.semantics.proofs.Invariant.{Inv, permitted-used, Location-ok, Good, good-ok}
 use Rattle.semantics.proofs.Steps.{block-clear}
-use Rattle.words.specs.Columns.{column}
-use Rattle.steps.specs.Answers.{failed, full, state-of, Answers, answers-ok, answers-failed, answers-full, Location-answers, Datum-answers, within-bounds, Variable-answered, Deref-answered, Field-answered, Sum-answered, Load-answered, Cast-answered, Malloc-answered}
+use Rattle.steps.specs.Answers.{slots, base-slot, end-slot, unused-slot, failed, full, state-of, Datum-is, Location-is, Answers, answers-ok, answers-failed, answers-full, Given, Bounded, Told, within-bounds, Finishes, Deref-finishes, Field-finishes, Sum-finishes, Load-finishes, Cast-finishes, Malloc-finishes}
 
 -- ---- bounds
 
@@ -31,102 +31,112 @@ pub inside : (b e w k : ℕ) {f : Bool} → f ≡ within-bounds b e w k → f �
 inside b e w k tested passed = in-bounds-true (record { value = 0; base = b; end = e }) w k (sym tested ∙ passed)
 
 -- Only base and end of the pointer matter.
-pub bounds-of : (p : Datum) {b e : ℕ} → p .base ≡ b → p .end ≡ e → (w k : ℕ) → in-bounds p w k ≡ within-bounds b e w k
+bounds-of : (p : Datum) {b e : ℕ} → p .base ≡ b → p .end ≡ e → (w k : ℕ) → in-bounds p w k ≡ within-bounds b e w k
 unfolding in-bounds
 bounds-of p hb he w k = rw (hb, he)
 
--- A check that is passed or not, with its answer.
-pub checked-yes : {u r b e : ℕ} {m : List Words} (n : ℕ) (p : Datum) (w k : ℕ) (l : Location) (log : List Event)
-    → in-bounds p w k ≡ true → l .at ≡ r → l .base ≡ b → l .end ≡ e → r < failed
-    → Location-answers m r b e u (checked n p w k l (state-of m u log))
-unfolding checked
-checked-yes n p w k l log t i q s h = rw t (answers-ok l log i q s h)
+-- ---- results without a step
 
-pub checked-no : {u r b e : ℕ} {m : List Words} (n : ℕ) (p : Datum) (w k : ℕ) (l : Location) (log : List Event)
-    → in-bounds p w k ≡ false → r ≡ failed
-    → Location-answers m r b e u (checked n p w k l (state-of m u log))
-unfolding checked
-checked-no n p w k l log t h = rw t (answers-failed _ log h)
+pub given-number : {x r : ℕ} {s s′ : Words} → Bounded 0 0 s s′ → r ≡ x → r < failed → Given Datum-is (unbounded x) s r s′
+given-number h e small =
+    record { room = h .room; is = record { value = sym e; base = sym (h .base); end = sym (h .end) }; small = small; unused = h .unused }
+
+pub given-variable : {i x r : ℕ} {s s′ : Words} → Bounded x (x + 1) s s′ → x ≡ i + 1 → r ≡ x → r < failed → Given Location-is (variable-location i) s r s′
+given-variable h hx hr small =
+    record { room = h .room; is = record { at = omega arith; base = omega (arith, h .base); end = omega (arith, h .end) }; small = small; unused = h .unused }
+
+-- What stands at word w of the lists.
+abbrev Fetched : ℕ → ℕ → List Words → Words → ℕ → Words → Type 0
+Fetched p w m = Given Datum-is (contents (is-pointer p) (state-of m 0 []) w)
+
+pub fetched-int : {p x r : ℕ} {s s′ : Words} (m : List Words) (w : ℕ) → p ≡ 0 → x ≡ word (column m 0) w → Given Datum-is (unbounded x) s r s′ → Fetched p w m s r s′
+unfolding is-pointer
+fetched-int m w zero e h = rw (zero, ← e) h
+
+pub fetched-pointer : {p b e r : ℕ} {s s′ : Words} (m : List Words) (w : ℕ) → (p ≡ 0 → ⊥) → Bounded b e s s′ → r ≡ word (column m 0) w → b ≡ word (column m 1) w → e ≡ word (column m 2) w → r < failed
+    → Fetched p w m s r s′
+unfolding is-pointer
+fetched-pointer {p} m w some h hr hb he small =
+    rw (le-leb 1 p (omega (arith, some)))
+    (record { room = h .room; is = record { value = sym hr; base = sym hb ∙ sym (h .base); end = sym he ∙ sym (h .end) }; small = small; unused = h .unused })
 
 -- ---- a child's answer: evaluation has ended there, or it goes on
 
-pub passed-on : {A B : Type 0} {number base end : A → ℕ} {number′ base′ end′ : B → ℕ} {m : List Words} {r b e u : ℕ} {o : Outcome A} (b′ e′ : ℕ) (f : A → State → Outcome B)
-    → failed ≤ r → Answers number base end m r b e u o → Answers number′ base′ end′ m r b′ e′ u (bind o f)
-passed-on b′ e′ f over (answers-ok x log p q s small) = absurd (omega arith)
-passed-on b′ e′ f over (answers-failed x log h) = answers-failed x log h
-passed-on b′ e′ f over (answers-full log h) = answers-full log h
+module _ {A B : Type 0} {Child : A → ℕ → Words → Type 0} {Ok : ℕ → A → State → Type 0} {Node : B → ℕ → Words → Type 0} where
+  -- The slots go on with it.
+  pub passed-on : (f : A → State → Outcome B) {m : List Words} {v : ℕ} {s : Words} → length s ≡ slots → failed ≤ v → Finishes Child Ok Node f m v s v s
+  passed-on f {m} {v} {s} room over = record { room = room; meets = λ vars len s₀ o a g. on a }
+    where
+      on : {o : Outcome A} → Answers Child m v s o → Answers Node m v s (bind o f)
+      on (answers-ok x log h small) = absurd (omega arith)
+      on (answers-failed log h) = answers-failed log h
+      on (answers-full log h) = answers-full log h
 
-pub goes-on : {A B : Type 0} {number base end : A → ℕ} {number′ base′ end′ : B → ℕ} {m : List Words} {r b e u r′ b′ e′ u′ : ℕ} {o : Outcome A} (f : A → State → Outcome B)
-    → r < failed → Answers number base end m r b e u o
-    → ((x : A) (log : List Event) → number x ≡ r → base x ≡ b → end x ≡ e → Answers number′ base′ end′ m r′ b′ e′ u′ (f x (state-of m u log)))
-    → Answers number′ base′ end′ m r′ b′ e′ u′ (bind o f)
-goes-on f under (answers-ok x log p q s small) k = k x log p q s
-goes-on f under (answers-failed x log h) k = absurd (omega arith)
-goes-on f under (answers-full log h) k = absurd (omega arith)
+  pub goes-on : (f : A → State → Outcome B) {m : List Words} {v r : ℕ} {s s′ : Words} → length s′ ≡ slots → v < failed
+      → ((vars len : ℕ) (x : A) (log : List Event) → Child x v s → Inv vars len (state-of m (word s unused-slot) log) → Ok vars x (state-of m (word s unused-slot) log)
+      → Answers Node m r s′ (f x (state-of m (word s unused-slot) log)))
+      → Finishes Child Ok Node f m v s r s′
+  goes-on f {m} {v} {r} {s} {s′} room under k = record { room = room; meets = λ vars len s₀ o a g. on vars len a g }
+    where
+      on : (vars len : ℕ) {s₀ : State} {o : Outcome A} → Answers Child m v s o → Good vars len s₀ (Ok vars) o → Answers Node m r s′ (bind o f)
+      on vars len (answers-ok x log h small) (good-ok inv later fine) = k vars len x log h inv fine
+      on vars len (answers-failed log h) g = absurd (omega arith)
+      on vars len (answers-full log h) g = absurd (omega arith)
 
--- The same where the invariant is asked for.
-pub goes-on-good : {vars r b e u r′ b′ e′ u′ : ℕ} {m : List Words} {s₀ : State} {o : Outcome Datum} (f : Datum → State → Outcome Datum)
-    → r < failed → Datum-answers m r b e u o → Good vars (length (column m 0)) s₀ (Datum-ok vars) o
-    → ((x : Datum) (log : List Event) → x .value ≡ r → x .base ≡ b → x .end ≡ e → Inv vars (length (column m 0)) (state-of m u log) → Datum-answers m r′ b′ e′ u′ (f x (state-of m u log)))
-    → Datum-answers m r′ b′ e′ u′ (bind o f)
-goes-on-good f under (answers-ok x log p q s small) (good-ok inv later fine) k = k x log p q s inv
-goes-on-good f under (answers-failed x log h) g k = absurd (omega arith)
-goes-on-good f under (answers-full log h) g k = absurd (omega arith)
+-- A result with this U.
+pub given-ok : {A : Type 0} {Is : A → ℕ → Words → Type 0} {m : List Words} {r u : ℕ} {s′ : Words} (x : A) (log : List Event) → Is x r s′ → r < failed → word s′ unused-slot ≡ u
+    → Answers Is m r s′ (ok x (state-of m u log))
+given-ok x log h small same = rw (← same) (answers-ok x log h small)
+
+-- A check that is passed: its location.
+checked-yes : {u r : ℕ} {s : Words} {m : List Words} (n : ℕ) (p : Datum) (w k : ℕ) (l : Location) (log : List Event)
+    → in-bounds p w k ≡ true → Location-is l r s → r < failed → word s unused-slot ≡ u
+    → Answers Location-is m r s (checked n p w k l (state-of m u log))
+unfolding checked
+checked-yes n p w k l log t h small same = rw t (given-ok l log h small same)
+
+-- A check that is not passed: the slots tell it.
+checked-no : {n w k r : ℕ} {s s′ : Words} {m : List Words} (p : Datum) (l : Location) (log : List Event)
+    → in-bounds p w k ≡ false → r ≡ failed → Told n w k s s′ → p .base ≡ word s base-slot → p .end ≡ word s end-slot
+    → Answers Location-is m r s′ (checked n p w k l (state-of m (word s unused-slot) log))
+unfolding checked
+checked-no {n} {w} {k} {r} {s} {s′} {m} p l log t h t′ hb he =
+    rw (t, hb, he, ← t′ .told, ← t′ .unused) (answers-failed log h)
 
 -- ---- places
 
-pub variable-answered : {i x r b e : ℕ} → x ≡ i + 1 → r ≡ x → b ≡ x → e ≡ x + 1 → r < failed → Variable-answered i r b e
-variable-answered {i} hx hr hb he small =
-    record { meets = λ m u log. answers-ok (variable-location i) log (omega arith) (omega arith) (omega arith) small }
+pub deref-yes : {v : ℕ} {m : List Words} {s : Words} {f : Bool} (n : ℕ) → length s ≡ slots → v < failed → f ≡ within-bounds (word s base-slot) (word s end-slot) v 1 → f ≡ true → Deref-finishes n m v s v s
+unfolding deref-step
+deref-yes {v} n room under tested passed =
+    goes-on (deref-step n) room under
+    (λ vars len p log h inv fine.
+    checked-yes n p (p .value) 1 _ log (ap (λ w. in-bounds p w 1) (h .value) ∙ bounds-of p (h .base) (h .end) v 1 ∙ sym tested ∙ passed) (record { at = h .value; base = h .base; end = h .end }) under refl)
 
-pub deref-ended : {v b e : ℕ} → failed ≤ v → Deref-answered v b e v
-deref-ended {v} {b} {e} over = record { meets = λ n m u o a. passed-on b e (deref-step n) over a }
+pub deref-no : {n v r : ℕ} {m : List Words} {s s′ : Words} {f : Bool} → v < failed → f ≡ within-bounds (word s base-slot) (word s end-slot) v 1 → f ≡ false → r ≡ failed → Told n v 1 s s′ → Deref-finishes n m v s r s′
+unfolding deref-step
+deref-no {n} {v} {s = s} {s′ = s′} under tested passed h t =
+    goes-on (deref-step n) (t .room) under
+    (λ vars len p log i inv fine. checked-no p _ log (ap (λ w. in-bounds p w 1) (i .value) ∙ bounds-of p (i .base) (i .end) v 1 ∙ sym tested ∙ passed) h (subst (λ w. Told n w 1 s s′) (sym (i .value)) t) (i .base) (i .end))
 
-pub deref-yes : {v b e : ℕ} {f : Bool} → v < failed → f ≡ within-bounds b e v 1 → f ≡ true → Deref-answered v b e v
-unfolding deref-step in-bounds
-deref-yes {v} {b} {e} under tested passed =
-    record {
-      meets = λ n m u o a.
-          goes-on (deref-step n) under a
-          (λ p log hv hb he. checked-yes n p (p .value) 1 _ log (rw hv (bounds-of p hb he v 1 ∙ sym tested ∙ passed)) hv hb he under);
-    }
+module _ {v w x : ℕ} {m : List Words} {s s′ : Words} {f : Bool} (n o k : ℕ) (under : v < failed) (wo : w ≡ o) (xk : x ≡ k)
+    (tested : f ≡ within-bounds (word s base-slot) (word s end-slot) (v + w) x) where
+  pub field-yes : {b e : ℕ} → f ≡ true → word s end-slot < failed → Bounded b e s s′ → b ≡ v + w → e ≡ v + w + x → Field-finishes n o k m v s (v + w) s′
+  unfolding field-step
+  field-yes passed small set hb he =
+      goes-on (field-step n o k) (set .room) under
+      (λ vars len p log h inv fine.
+      let fits = inside (word s base-slot) (word s end-slot) (v + w) x tested passed in
+      let same : p .value + o ≡ v + w = omega (arith, h .value) in
+      checked-yes n p _ _ _ log (rw (same, ← xk) (bounds-of p (h .base) (h .end) (v + w) x ∙ sym tested ∙ passed))
+      (record { at = same; base = omega (arith, same, set .base); end = omega (arith, same, set .end) }) (omega (arith, fits)) (set .unused))
 
-pub deref-no : {v b e : ℕ} {f : Bool} → v < failed → f ≡ within-bounds b e v 1 → f ≡ false → Deref-answered v b e failed
-unfolding deref-step in-bounds
-deref-no {v} {b} {e} under tested passed =
-    record {
-      meets = λ n m u o a.
-          goes-on (deref-step n) under a
-          (λ p log hv hb he. checked-no n p (p .value) 1 _ log (rw hv (bounds-of p hb he v 1 ∙ sym tested ∙ passed)) refl);
-    }
-
-pub field-ended : {o k v b e b′ e′ : ℕ} → failed ≤ v → Field-answered o k v b e v b′ e′
-field-ended {o} {k} {b′ = b′} {e′ = e′} over = record { meets = λ n m u x a. passed-on b′ e′ (field-step n o k) over a }
-
-pub field-yes : {o k v b e w x b′ e′ : ℕ} {f : Bool} → v < failed → w ≡ o → x ≡ k → f ≡ within-bounds b e (v + w) x → f ≡ true → e < failed
-    → b′ ≡ v + w → e′ ≡ v + w + x → Field-answered o k v b e (v + w) b′ e′
-unfolding field-step
-field-yes {o} {k} {v} {b} {e} {w} {x} under wo xk tested passed small hb′ he′ =
-    record {
-      meets = λ n m u out a.
-          goes-on (field-step n o k) under a
-          (λ p log hv hb he.
-          let fits = inside b e (v + w) x tested passed in
-          let same : p .value + o ≡ v + w = omega arith in
-          checked-yes n p _ _ _ log (rw (same, ← xk) (bounds-of p hb he (v + w) x ∙ sym tested ∙ passed)) same (same ∙ sym hb′) (omega (arith, same)) (omega (arith, fits)));
-    }
-
-pub field-no : {o k v b e w x b′ e′ : ℕ} {f : Bool} → v < failed → w ≡ o → x ≡ k → f ≡ within-bounds b e (v + w) x → f ≡ false
-    → Field-answered o k v b e failed b′ e′
-unfolding field-step
-field-no {o} {k} {v} {b} {e} {w} {x} under wo xk tested passed =
-    record {
-      meets = λ n m u out a.
-          goes-on (field-step n o k) under a
-          (λ p log hv hb he.
-          let same : p .value + o ≡ v + w = omega arith in
-          checked-no n p _ _ _ log (rw (same, ← xk) (bounds-of p hb he (v + w) x ∙ sym tested ∙ passed)) refl);
-    }
+  pub field-no : {r : ℕ} → f ≡ false → r ≡ failed → Told n (v + w) x s s′ → Field-finishes n o k m v s r s′
+  unfolding field-step
+  field-no passed h t =
+      goes-on (field-step n o k) (t .room) under
+      (λ vars len p log i inv fine.
+      let same : p .value + o ≡ v + w = omega (arith, i .value) in
+      rw (same, ← xk) (checked-no p _ log (bounds-of p (i .base) (i .end) (v + w) x ∙ sym tested ∙ passed) h t (i .base) (i .end)))
 
 -- ---- values
 
@@ -134,111 +144,59 @@ field-no {o} {k} {v} {b} {e} {w} {x} under wo xk tested passed =
 pub product-fits : {a b : ℕ} → a < 2 ^ 32 → b < 2 ^ 32 → a * b < 2 ^ 64
 product-fits {a} ha hb = lt-of-le-of-lt (mul-le-mul-left a (le-of-lt hb)) (mul-lt-mul-of-pos-right ha (omega arith))
 
-pub sum-ended : {step v w : ℕ} → failed ≤ w → Sum-answered step v w w
-sum-ended {step} over = record { meets = λ p b e b₂ e₂ m u o hv hb he a. passed-on b e (sum-step step p) over a }
+pub sum-done : {v w b e r : ℕ} {m : List Words} {s s′ : Words} (step : ℕ) (p : Datum) → p .value ≡ v → p .base ≡ b → p .end ≡ e → w < failed → Bounded b e s s′
+    → r ≡ (v + step * w) % 4294967296 → r < failed → Sum-finishes step p m w s r s′
+sum-done step p hv hb he under set h small =
+    goes-on (sum-step step p) (set .room) under
+    (λ vars len x log i inv fine. given-ok _ log (record { value = rw (hv, i .value) (sym h); base = hb ∙ sym (set .base); end = he ∙ sym (set .end) }) small (set .unused))
 
-pub sum-done : {step v w r : ℕ} → w < failed → r ≡ (v + step * w % 4294967296) % 4294967296 → r < failed → Sum-answered step v w r
-sum-done {step} {v} {w} {r} under h small =
-    record {
-      meets = λ p b e b₂ e₂ m u o hv hb he a.
-          goes-on (sum-step step p) under a
-          (λ x log hw _ _. answers-ok _ log (rw (hv, hw) (omega (arith, h))) hb he small);
-    }
-
--- A place that may be touched has a rule.
-pub touched : {vars u r b e : ℕ} {m : List Words} {s₀ : State} {o : Outcome Location} → Location-answers m r b e u o
-    → Good vars (length (column m 0)) s₀ (Location-ok vars) o → r < failed
-    → (0 < r) × (r < u) × (u ≤ length (column m 0)) × (length (column m 1) ≡ length (column m 0)) × (length (column m 2) ≡ length (column m 0))
-touched (answers-ok l log p q s small) (good-ok inv later fine) under =
+-- A place that may be touched is in use.
+pub touched : {vars len at : ℕ} {l : Location} {st : State} → Inv vars len st → Location-ok vars l st → l .at ≡ at
+    → (0 < at) × (at < st .unused) × (st .unused ≤ len) × (length (st .values) ≡ len) × (length (st .bases) ≡ len) × (length (st .ends) ≡ len)
+touched inv fine e =
     let used = permitted-used inv (fine .permitted) in
-    (omega (arith, used), omega (arith, used), inv .high, inv .bases-length, inv .ends-length)
-touched (answers-failed x log h) g under = absurd (omega arith)
-touched (answers-full log h) g under = absurd (omega arith)
+    (omega (arith, used), omega (arith, used), inv .high, inv .values-length, inv .bases-length, inv .ends-length)
 
-pub load-ended : {p at b e : ℕ} {m : List Words} → failed ≤ at → Load-answered p m at at b e
-load-ended {p} {b = b} {e = e} over = record { meets = λ vars b₁ e₁ u s₀ o a g. passed-on b e (read-step (is-pointer p)) over a }
-
--- What a read gives is what stands at the place: the value alone, or value, base and end.
-read-done : {vars at r b e b′ e′ u : ℕ} {m : List Words} {s₀ : State} {o : Outcome Location} (pointer : Bool) → at < failed → r < failed
-    → ((log : List Event) → (contents pointer (state-of m u log) at .value ≡ r) × (contents pointer (state-of m u log) at .base ≡ b′) × (contents pointer (state-of m u log) at .end ≡ e′))
-    → Location-answers m at b e u o → Good vars (length (column m 0)) s₀ (Location-ok vars) o → Datum-answers m r b′ e′ u (bind o (read-step pointer))
+-- What a read gives is what stands at the place.
+pub load-done : {at r : ℕ} {s s′ : Words} (p : ℕ) (m : List Words) → at < failed → Fetched p at m s r s′ → Load-finishes p m at s r s′
 unfolding read-step touchable
-read-done {at = at} {u = u} pointer under small found answer good =
-    let t = touched answer good under in
-    goes-on (read-step pointer) under answer
-    (λ l log hl _ _. rw (hl, lt-ltb 0 at (t .0), lt-ltb at u (t .1)) (answers-ok _ _ (found log .0) (found log .1) (found log .2) small))
-
-pub load-int : {p at r b′ e′ : ℕ} {m : List Words} → at < failed → r < failed → p ≡ 0 → r ≡ word (column m 0) at → b′ ≡ 0 → e′ ≡ 0 → Load-answered p m at r b′ e′
-unfolding is-pointer
-load-int {p} under small zero h hb he =
-    record { meets = λ vars b e u s₀ o a g. read-done (is-pointer p) under small (λ log. rw zero (sym h, sym hb, sym he)) a g }
-
-pub load-pointer : {p at r b′ e′ : ℕ} {m : List Words} → at < failed → r < failed → (p ≡ 0 → ⊥) → r ≡ word (column m 0) at → b′ ≡ word (column m 1) at → e′ ≡ word (column m 2) at
-    → Load-answered p m at r b′ e′
-unfolding is-pointer
-load-pointer {p} under small some h hb he =
-    record { meets = λ vars b e u s₀ o a g. read-done (is-pointer p) under small (λ log. rw (le-leb 1 p (omega (arith, some))) (sym h, sym hb, sym he)) a g }
-
-pub keeps-none : (from to : ℕ) → from ≡ 0 → is-pointer 0 ≡ is-pointer from && is-pointer to
-unfolding is-pointer
-keeps-none from to zero = rw zero
-
-pub keeps-some : (from to : ℕ) → (from ≡ 0 → ⊥) → is-pointer to ≡ is-pointer from && is-pointer to
-unfolding is-pointer
-keeps-some from to some = rw (le-leb 1 from (omega (arith, some)))
-
--- A cast hands on the number, and the bounds or none.
-pub cast-int : {k v b e b′ e′ : ℕ} → k ≡ 0 → b′ ≡ 0 → e′ ≡ 0 → Cast-answered k v b e b′ e′
-unfolding is-pointer
-cast-int {k} {v} {b′ = b′} {e′ = e′} zero hb he = record { meets = λ m u o a. rw zero (dropped a) }
+load-done {at} {s = s} p m under h =
+    goes-on (read-step (is-pointer p)) (h .room) under
+    (λ vars len l log i inv fine.
+    let t = touched inv fine (i .at) in
+    rw (i .at, lt-ltb 0 at (t .0), lt-ltb at (word s unused-slot) (t .1), found (is-pointer p) _ _) (given-ok _ _ (h .is) (h .small) (h .unused)))
   where
-    dropped : {m : List Words} {u b e : ℕ} {o : Outcome Datum} → Datum-answers m v b e u o → Datum-answers m v b′ e′ u (bind o (cast-step false))
-    dropped (answers-ok x log p q s small) = answers-ok _ log p (sym hb) (sym he) small
-    dropped (answers-failed x log h) = answers-failed x log h
-    dropped (answers-full log h) = answers-full log h
+    found : (b : Bool) (u : ℕ) (log : List Event) → contents b (state-of m u log) at ≡ contents b (state-of m 0 []) at
+    found true u log = refl
+    found false u log = refl
 
-pub cast-pointer : {k v b e : ℕ} → (k ≡ 0 → ⊥) → Cast-answered k v b e b e
-unfolding is-pointer
-cast-pointer {k} {v} some = record { meets = λ m u o a. rw (le-leb 1 k (omega (arith, some))) (kept a) }
-  where
-    kept : {m : List Words} {u b e : ℕ} {o : Outcome Datum} → Datum-answers m v b e u o → Datum-answers m v b e u (bind o (cast-step true))
-    kept (answers-ok x log p q s small) = answers-ok _ log p q s small
-    kept (answers-failed x log h) = answers-failed x log h
-    kept (answers-full log h) = answers-full log h
+pub cast-done : {v : ℕ} {m : List Words} {s s′ : Words} → v < failed → Bounded 0 0 s s′ → Cast-finishes m v s v s′
+cast-done under set =
+    goes-on (cast-step false) (set .room) under
+    (λ vars len x log i inv fine. given-ok _ log (record { value = i .value; base = sym (set .base); end = sym (set .end) }) under (set .unused))
 
 -- ---- blocks
 
-pub malloc-ended : {len v u b′ e′ : ℕ} → failed ≤ v → Malloc-answered len v u v b′ e′ u
-malloc-ended {b′ = b′} {e′ = e′} over = record { meets = λ vars b e m s₀ o hl a g. passed-on b′ e′ malloc-step over a }
-
-pub malloc-none : {len v u r b′ e′ u′ : ℕ} → v ≡ 0 → r ≡ 0 → b′ ≡ 0 → e′ ≡ 0 → u′ ≡ u → Malloc-answered len v u r b′ e′ u′
+pub malloc-none : {v r : ℕ} {m : List Words} {s s′ : Words} → v ≡ 0 → Given Datum-is (unbounded 0) s r s′ → Malloc-finishes m v s r s′
 unfolding malloc-step
-malloc-none h hr hb he hu =
-    record {
-      meets = λ vars b e m s₀ o hl a g.
-          goes-on malloc-step (omega arith) a
-          (λ x log hx _ _. rw (eq-eqb (x .value) 0 (hx ∙ h), hu) (answers-ok (unbounded 0) log (sym hr) (sym hb) (sym he) (omega arith)));
-    }
+malloc-none zero h =
+    goes-on malloc-step (h .room) (omega arith)
+    (λ vars len x log i inv fine. rw (eq-eqb (x .value) 0 (i .value ∙ zero)) (given-ok _ log (h .is) (h .small) (h .unused)))
 
-pub malloc-some : {len v u r b′ e′ u′ : ℕ} → v < failed → (v ≡ 0 → ⊥) → u + v ≤ len → r ≡ u → b′ ≡ u → e′ ≡ u + v → u′ ≡ u + v → u < failed
-    → Malloc-answered len v u r b′ e′ u′
-unfolding malloc-step
-malloc-some {len} {v} {u} under some fits hr hb he hu small =
-    record {
-      meets = λ vars b e m s₀ o hl a g.
-          goes-on-good malloc-step under a g
-          (λ x log hx _ _ inv.
-          rw (ne-eqb (x .value) 0 (λ z. some (sym hx ∙ z)), hx, le-leb (u + v) (length (column m 0)) (omega arith), block-clear v inv, hr, hb, he, hu)
-          (answers-ok _ _ refl refl refl small));
-    }
+module _ {len v : ℕ} {m : List Words} {s : Words} (all : length (column m 0) ≡ len) (under : v < failed) (some : v ≡ 0 → ⊥) where
+  pub malloc-some : {r : ℕ} {s′ : Words} → word s unused-slot + v ≤ len → length s′ ≡ slots → word s′ base-slot ≡ word s unused-slot → word s′ end-slot ≡ word s unused-slot + v
+      → word s′ unused-slot ≡ word s unused-slot + v → r ≡ word s unused-slot → r < failed → Malloc-finishes m v s r s′
+  unfolding malloc-step
+  malloc-some fits room hb he hu hr small =
+      goes-on malloc-step room under
+      (λ vars l x log i inv fine.
+      rw (ne-eqb (x .value) 0 (λ z. some (sym (i .value) ∙ z)), i .value, le-leb (word s unused-slot + v) (length (column m 0)) (omega arith), block-clear v inv)
+      (given-ok _ _ (record { value = sym hr; base = sym hb; end = sym he }) small hu))
 
-pub malloc-full : {len v u b′ e′ : ℕ} → v < failed → (v ≡ 0 → ⊥) → len < u + v → Malloc-answered len v u full b′ e′ u
-unfolding malloc-step
-malloc-full {len} {v} {u} under some over =
-    record {
-      meets = λ vars b e m s₀ o hl a g.
-          goes-on malloc-step under a
-          (λ x log hx _ _.
-          rw (ne-eqb (x .value) 0 (λ z. some (sym hx ∙ z)), hx, lt-leb (u + v) (length (column m 0)) (omega arith))
-          (answers-full log refl));
-    }
+  pub malloc-full : {r : ℕ} → length s ≡ slots → len < word s unused-slot + v → r ≡ full → Malloc-finishes m v s r s
+  unfolding malloc-step
+  malloc-full room over h =
+      goes-on malloc-step room under
+      (λ vars l x log i inv fine.
+      rw (ne-eqb (x .value) 0 (λ z. some (sym (i .value) ∙ z)), i .value, lt-leb (word s unused-slot + v) (length (column m 0)) (omega arith))
+      (answers-full log h))

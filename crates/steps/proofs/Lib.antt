@@ -1,3 +1,3 @@
 -- Laws that the functions' proofs cite.
-pub mod Memory
+pub mod Slots
 pub mod Finish

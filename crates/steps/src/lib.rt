@@ -1,38 +1,66 @@
 // The steps of evaluation: what is answered for one node from what its child answered.
-// `m` is the memory: values, bases and ends. `s` holds base and end of what was worked out, and U. A result is one number, below
-// 2^32 a value or a place, else how evaluation ended.
+// A result is one number, below 2^32 a value or a place, else how evaluation ended. `s` are slots beside it: base and end of what was
+// worked out, U, and, where a check was not passed, that check.
 ghost use mathlib.Core.Path.{_≡_};
-ghost use mathlib.Core.Bool.{_&&_};
-ghost use mathlib.Core.List.{map};
-ghost use Prim.Native.Nat.{_<_, _^_};
+ghost use mathlib.Core.List.{List, [], map};
+ghost use Prim.Native.Nat.{_+_, _*_, _%_, _<_, _^_};
 ghost use lib.ListN.{length};
-ghost use Rattle.semantics.specs.Words.{word};
-ghost use Rattle.semantics.specs.Table.{is-pointer};
 ghost use Rattle.words.specs.Columns.{column};
-ghost use Rattle.steps.specs.Answers.{failed, within-bounds, Variable-answered, Deref-answered, Field-answered, Sum-answered, Load-answered, Cast-answered, Malloc-answered, Kept, Bounded};
+ghost use Rattle.semantics.specs.Words.{Words, word};
+ghost use Rattle.semantics.specs.Table.{is-pointer};
+ghost use Rattle.semantics.specs.Rules.{Datum, unbounded, variable-location, contents};
+ghost use Rattle.steps.specs.Answers.{slots, failed, within-bounds, state-of, Datum-is, Location-is, Bounded, Given, Told, Deref-finishes, Field-finishes, Sum-finishes, Load-finishes, Cast-finishes, Malloc-finishes};
 use words::long;
 use words::low;
+use words::narrow;
 
+// The memory: its values, its bases and its ends.
+pub type Memory<'a> = [&'a mut [u32]; 3];
+
+pub const VALUES: usize = 0;
+
+pub const BASES: usize = 1;
+
+pub const ENDS: usize = 2;
+
+// The slots. Of a place wanted, which can exceed 32 bits, the lower and the upper half.
+pub type Slots = [u32; 7];
+
+pub const BASE: usize = 0;
+
+pub const END: usize = 1;
+
+pub const UNUSED: usize = 2;
+
+const NODE: usize = 3;
+
+const LOW: usize = 4;
+
+const HIGH: usize = 5;
+
+const WORDS: usize = 6;
+
+// How evaluation ended: with a check that was not passed, or with no room.
 pub const FAILED: u64 = 4294967296;
 
-const FULL: u64 = 4294967297;
+pub const FULL: u64 = 4294967297;
 
 // What sums are taken modulo.
 const MODULUS: u64 = 4294967296;
 
 // Word w of list j of the memory.
-fn cell(m: &[&[u32]; 3], j: usize, w: usize) -> u32
+fn cell(m: &mut Memory, j: usize, w: usize) -> u32
     requires { ⌜ (j < 3) × (w < 2 ^ 32) × (w < length (column (map (λ x. now x) (now m)) j)) ⌝ }
-    ensures { λ r. ⌜ r ≡ word (column (map (λ x. now x) (now (m .entry))) j) w ⌝ }
+    ensures { λ r. ⌜ (r ≡ word (column (map (λ x. now x) (now (m .entry))) j) w) × (now (m .exit) ≡ now (m .entry)) ⌝ }
 {
     m[j][w]
 }
 
 // How many words the memory has.
-pub fn words(m: &[&[u32]; 3]) -> usize
-    ensures { λ r. ⌜ r ≡ length (column (map (λ x. now x) (now (m .entry))) 0) ⌝ }
+pub fn words(m: &mut Memory) -> usize
+    ensures { λ r. ⌜ (r ≡ length (column (map (λ x. now x) (now (m .entry))) 0)) × (now (m .exit) ≡ now (m .entry)) ⌝ }
 {
-    m[0].len()
+    m[VALUES].len()
 }
 
 // Whether k words from w on lie within [base, end). The sums are exact.
@@ -48,120 +76,139 @@ fn within(base: u32, end: u32, w: u64, k: u64) -> bool
 }
 
 // Sets base and end.
-pub fn bound(base: u32, end: u32, s: &mut [u32; 3])
-    requires { ⌜ length (now s) ≡ 3 ⌝ }
+fn bound(base: u32, end: u32, s: &mut Slots)
+    requires { ⌜ length (now s) ≡ slots ⌝ }
     ensures { λ r. ⌜ Bounded base end (now (s .entry)) (now (s .exit)) ⌝ }
 {
-    s[0] = base;
-    s[1] = end;
+    s[BASE] = base;
+    s[END] = end;
 }
 
 // A number has no bounds.
-pub fn number(x: u32, s: &mut [u32; 3]) -> u64
-    requires { ⌜ length (now s) ≡ 3 ⌝ }
-    ensures { λ r. ⌜ (r ≡ x) × (r < failed) × (Bounded 0 0 (now (s .entry)) (now (s .exit))) ⌝ }
+pub fn number(x: u32, s: &mut Slots) -> u64
+    requires { ⌜ length (now s) ≡ slots ⌝ }
+    ensures { λ r. ⌜ Given Datum-is (unbounded x) (now (s .entry)) r (now (s .exit)) ⌝ }
 {
     bound(0, 0, s);
     long(x)
 }
 
 // A variable's word, with itself as bounds.
-pub fn variable(i: u32, s: &mut [u32; 3]) -> u64
-    requires { ⌜ (i < 65536) × (length (now s) ≡ 3) ⌝ }
-    ensures { λ r. ⌜ (Variable-answered i r (word (now (s .exit)) 0) (word (now (s .exit)) 1)) × (Kept (now (s .entry)) (now (s .exit))) ⌝ }
+pub fn variable(i: u32, s: &mut Slots) -> u64
+    requires { ⌜ (i < 65536) × (length (now s) ≡ slots) ⌝ }
+    ensures { λ r. ⌜ Given Location-is (variable-location i) (now (s .entry)) r (now (s .exit)) ⌝ }
 {
     let at = i + 1;
     bound(at, at + 1, s);
     long(at)
 }
 
-// The functions below finish a node from what its child answered, v; where evaluation has ended, they pass that on.
+// The check of node n for k words from w on was not passed: it goes beside its bounds.
+fn fail(n: usize, w: u64, k: u32, s: &mut Slots) -> u64
+    requires { ⌜ (n < 2 ^ 32) × (length (now s) ≡ slots) ⌝ }
+    ensures { λ r. ⌜ (r ≡ failed) × (Told n w k (now (s .entry)) (now (s .exit))) ⌝ }
+{
+    s[NODE] = narrow(n);
+    s[LOW] = low(w % MODULUS);
+    s[HIGH] = low(w / MODULUS);
+    s[WORDS] = k;
+    FAILED
+}
+
+// What stands at word w, with its bounds where its type is a pointer's.
+pub fn fetch(m: &mut Memory, w: usize, pointer: u32, s: &mut Slots) -> u64
+    requires { ⌜ (w < 2 ^ 32) × (w < length (column (map (λ x. now x) (now m)) 0)) × (w < length (column (map (λ x. now x) (now m)) 1)) × (w < length (column (map (λ x. now x) (now m)) 2)) × (length (now s) ≡ slots) ⌝ }
+    ensures { λ r. ⌜ (Given Datum-is (contents (is-pointer pointer) (state-of (map (λ x. now x) (now (m .entry))) 0 []) w) (now (s .entry)) r (now (s .exit))) × (now (m .exit) ≡ now (m .entry)) ⌝ }
+{
+    if pointer == 0 {
+        return number(cell(m, VALUES, w), s);
+    }
+    bound(cell(m, BASES, w), cell(m, ENDS, w), s);
+    long(cell(m, VALUES, w))
+}
+
+// v moved by w steps, modulo 2^32. The product is exact in 64 bits before it is cut.
+pub fn add(v: u64, step: u32, w: u64) -> u64
+    requires { ⌜ (v < failed) × (w < failed) ⌝ }
+    ensures { λ r. ⌜ (r ≡ (v + step * w) % 4294967296) × (r < failed) ⌝ }
+{
+    let moved = low(long(step) * w % MODULUS);
+    long(std::num::wrapping_add_u32(low(v), moved))
+}
+
+// The functions below finish a node from what its child answered, v; where evaluation has ended, they pass that on, and the slots with it.
 
 // The place that a pointer points to, with the pointer's bounds.
-pub fn deref(v: u64, base: u32, end: u32) -> u64
-    ensures { λ r. ⌜ Deref-answered v base end r ⌝ }
+pub fn deref(n: usize, v: u64, s: &mut Slots) -> u64
+    requires { ⌜ (n < 2 ^ 32) × (length (now s) ≡ slots) ⌝ }
+    ensures { λ r. ⌜ ((m : List Words) → Deref-finishes n m v (now (s .entry)) r (now (s .exit))) ⌝ }
 {
     if FAILED <= v {
         return v;
     }
-    if within(base, end, v, 1) {
+    if within(s[BASE], s[END], v, 1) {
         return v;
     }
-    FAILED
+    fail(n, v, 1, s)
 }
 
 // The place of a field: all its words are checked, and its bounds are its own words.
-pub fn field(v: u64, offset: u32, count: u32, s: &mut [u32; 3]) -> u64
-    requires { ⌜ length (now s) ≡ 3 ⌝ }
-    ensures { λ r. ⌜ (Field-answered offset count v (word (now (s .entry)) 0) (word (now (s .entry)) 1) r (word (now (s .exit)) 0) (word (now (s .exit)) 1)) × (Kept (now (s .entry)) (now (s .exit))) ⌝ }
+pub fn field(n: usize, v: u64, offset: u32, count: u32, s: &mut Slots) -> u64
+    requires { ⌜ (n < 2 ^ 32) × (length (now s) ≡ slots) ⌝ }
+    ensures { λ r. ⌜ ((m : List Words) → Field-finishes n offset count m v (now (s .entry)) r (now (s .exit))) ⌝ }
 {
     if FAILED <= v {
         return v;
     }
     let w = v + long(offset);
     let k = long(count);
-    if within(s[0], s[1], w, k) {
+    if within(s[BASE], s[END], w, k) {
         bound(low(w), low(w + k), s);
         return w;
     }
-    FAILED
+    fail(n, w, count, s)
 }
 
-// v moved by w steps, modulo 2^32. The product is exact in 64 bits before it is cut.
-pub fn sum(v: u64, step: u32, w: u64) -> u64
-    requires { ⌜ v < failed ⌝ }
-    ensures { λ r. ⌜ Sum-answered step v w r ⌝ }
+// A sum from its right operand, w: the left one is v, with this base and this end, which it keeps.
+pub fn sum(v: u64, base: u32, end: u32, step: u32, w: u64, s: &mut Slots) -> u64
+    requires { ⌜ (v < failed) × (length (now s) ≡ slots) ⌝ }
+    ensures { λ r. ⌜ ((m : List Words) (p : Datum) → p .value ≡ v → p .base ≡ base → p .end ≡ end → Sum-finishes step p m w (now (s .entry)) r (now (s .exit))) ⌝ }
 {
     if FAILED <= w {
         return w;
     }
-    let moved = low(long(step) * w % MODULUS);
-    long(std::num::wrapping_add_u32(low(v), moved))
+    bound(base, end, s);
+    add(v, step, w)
 }
 
 // The word at a place, with its bounds where its type is a pointer's.
-pub fn load(m: &[&[u32]; 3], at: u64, pointer: u32, s: &mut [u32; 3]) -> u64
-    requires { ⌜ length (now s) ≡ 3 ⌝ }
+pub fn load(m: &mut Memory, at: u64, pointer: u32, s: &mut Slots) -> u64
+    requires { ⌜ length (now s) ≡ slots ⌝ }
     requires { ⌜ (at < failed → (at < length (column (map (λ x. now x) (now m)) 0)) × (at < length (column (map (λ x. now x) (now m)) 1)) × (at < length (column (map (λ x. now x) (now m)) 2))) ⌝ }
-    ensures { λ r. ⌜ (Load-answered pointer (map (λ x. now x) (now (m .entry))) at r (word (now (s .exit)) 0) (word (now (s .exit)) 1)) × (Kept (now (s .entry)) (now (s .exit))) ⌝ }
+    ensures { λ r. ⌜ (Load-finishes pointer (map (λ x. now x) (now (m .entry))) at (now (s .entry)) r (now (s .exit))) × (now (m .exit) ≡ now (m .entry)) ⌝ }
 {
     if FAILED <= at {
         return at;
     }
-    let w = at as usize;
-    if pointer == 0 {
-        return number(cell(m, 0, w), s);
-    }
-    bound(cell(m, 1, w), cell(m, 2, w), s);
-    long(cell(m, 0, w))
+    fetch(m, at as usize, pointer, s)
 }
 
-// Whether a cast keeps bounds, 0 if not: from pointer to pointer.
-pub fn keeps(from: u32, to: u32) -> u32
-    ensures { λ r. ⌜ is-pointer r ≡ is-pointer from && is-pointer to ⌝ }
+// A cast that drops bounds.
+pub fn drop_bounds(v: u64, s: &mut Slots) -> u64
+    requires { ⌜ length (now s) ≡ slots ⌝ }
+    ensures { λ r. ⌜ ((m : List Words) → Cast-finishes m v (now (s .entry)) r (now (s .exit))) ⌝ }
 {
-    if from == 0 {
-        return 0;
-    }
-    to
-}
-
-// A cast keeps bounds from pointer to pointer and drops them else.
-pub fn cast(v: u64, keeps: u32, s: &mut [u32; 3]) -> u64
-    requires { ⌜ length (now s) ≡ 3 ⌝ }
-    ensures { λ r. ⌜ (r ≡ v) × (Cast-answered keeps v (word (now (s .entry)) 0) (word (now (s .entry)) 1) (word (now (s .exit)) 0) (word (now (s .exit)) 1)) × (Kept (now (s .entry)) (now (s .exit))) ⌝ }
-{
-    if keeps == 0 {
-        bound(0, 0, s);
+    if FAILED <= v {
         return v;
     }
+    bound(0, 0, s);
     v
 }
 
 // A block of v words at U, in a memory of len words.
-pub fn allocate(v: u64, len: usize, s: &mut [u32; 3]) -> u64
-    requires { ⌜ (len < 2 ^ 32) × (length (now s) ≡ 3) ⌝ }
-    ensures { λ r. ⌜ (Malloc-answered len v (word (now (s .entry)) 2) r (word (now (s .exit)) 0) (word (now (s .exit)) 1) (word (now (s .exit)) 2)) × (length (now (s .exit)) ≡ 3) ⌝ }
+pub fn allocate(v: u64, len: usize, s: &mut Slots) -> u64
+    requires { ⌜ (len < 2 ^ 32) × (length (now s) ≡ slots) ⌝ }
+    ensures { λ r. ⌜ ((m : List Words) → length (column m 0) ≡ len → Malloc-finishes m v (now (s .entry)) r (now (s .exit))) ⌝ }
 {
     if FAILED <= v {
         return v;
@@ -169,11 +216,11 @@ pub fn allocate(v: u64, len: usize, s: &mut [u32; 3]) -> u64
     if v == 0 {
         return number(0, s);
     }
-    let u = s[2];
+    let u = s[UNUSED];
     let top = long(u) + v;
     if top <= len as u64 {
         bound(u, low(top), s);
-        s[2] = low(top);
+        s[UNUSED] = low(top);
         return long(u);
     }
     FULL

@@ -17,7 +17,7 @@ use Rattle.layout.specs.declared.Verdict.{Verdict}
 use Rattle.layout.specs.Lists.{filled}
 use Rattle.layout.proofs.Laws.{sum-more, each-more, place-at}
 use Rattle.layout.proofs.Lists.{filled-more, passed-to, passed-all}
-use Rattle.nodes.specs.Nodes.{note}
+use Rattle.layout.specs.Notes.{note}
 use Rattle.nodes.specs.Promises.{Reached, Room, Counted, Noted}
 use Rattle.table.specs.Promises.{Clear, notes-noted, Nodes-noted}
 use Rattle.table.proofs.Uses.{uses-few}

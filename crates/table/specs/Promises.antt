@@ -12,7 +12,7 @@ use Rattle.layout.specs.Lists.{filled, by-verdict, passed-below}
 use Rattle.layout.specs.Types.{types-fault, Tabulated, first-left}
 use Rattle.layout.specs.declared.Parsed.{Parsed}
 use Rattle.sizes.specs.Sizes.{sizes-noted, offsets-noted}
-use Rattle.nodes.specs.Nodes.{note}
+use Rattle.layout.specs.Notes.{note}
 use Rattle.nodes.specs.Promises.{Noted-to}
 
 -- No use is counted yet.

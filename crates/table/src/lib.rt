@@ -10,10 +10,17 @@ ghost use Rattle.layout.specs.Layout.{verdict-of, Stands, Laid-out};
 ghost use Rattle.layout.specs.Types.{Checked, Looked-up};
 ghost use Rattle.nodes.specs.Promises.{Noted-to};
 ghost use Rattle.table.specs.Promises.{Clear, notes-noted, Nodes-noted, command-verdict, Commands-ready, Commands-counted, All-counted, Lists-ready, Checks};
+use layout::Entries;
+use layout::Firsts;
+use layout::Notes;
+use layout::Offsets;
 use layout::Parsed;
 use layout::Section;
+use layout::Sizes;
 use layout::Table;
+use layout::Uses;
 use layout::Verdict;
+use layout::note;
 use sizes::note_sizes;
 use words::index;
 
@@ -21,10 +28,10 @@ use words::index;
 fn check_nodes(
     t: &[u32],
     l: Table,
-    first: &[u32; 33],
-    entry: &[u32; 98],
-    notes: &mut [u32; 512],
-    uses: &mut [u32; 512],
+    first: &Firsts,
+    entry: &Entries,
+    notes: &mut Notes,
+    uses: &mut Uses,
 ) -> Verdict
     requires { ⌜ (Laid-out (now t) l) × (Types-passed (now t)) × (Looked-up (now t) (now first) (now entry)) × (Clear (now notes) (now uses)) ⌝ }
     ensures found { λ r. ⌜ Checked r (each (count (now (t .entry)) nodes) (node-fault (now (t .entry)))) (Nodes-noted (now (t .entry)) (now (notes .exit)) (now (uses .exit)) (count (now (t .entry)) nodes)) ⌝ }
@@ -58,14 +65,14 @@ fn check_nodes(
 }
 
 // A command with a place node x and a value node v, both of n nodes, which stand at `place`: 7 for each, then 8.
-fn check_command(notes: &[u32; 512], n: usize, place: usize, x: u32, v: u32) -> Verdict
+fn check_command(notes: &Notes, n: usize, place: usize, x: u32, v: u32) -> Verdict
     requires { ⌜ (n ≤ 512) × (place + 1 < 2 ^ 64) ⌝ }
     ensures { λ r. ⌜ ((t : Words) → Noted-to t (now (notes .entry)) n → n ≡ count t nodes → verdict-of r ≡ command-verdict t place x v) ⌝ }
 {
-    if !nodes::is_child(notes, n, x, nodes::PLACE) {
+    if !nodes::is_child(notes, n, x, note::PLACE) {
         return Verdict::Refused(7, place);
     }
-    if !nodes::is_child(notes, n, v, nodes::VALUE) {
+    if !nodes::is_child(notes, n, v, note::VALUE) {
         return Verdict::Refused(7, place + 1);
     }
     if nodes::type_of(notes, x) != nodes::type_of(notes, v) {
@@ -75,13 +82,7 @@ fn check_command(notes: &[u32; 512], n: usize, place: usize, x: u32, v: u32) -> 
 }
 
 // 7 and 8 for the first command at fault. Counts their uses of the n nodes.
-fn check_commands(
-    t: &[u32],
-    notes: &[u32; 512],
-    n: usize,
-    commands: Section,
-    uses: &mut [u32; 512],
-) -> Verdict
+fn check_commands(t: &[u32], notes: &Notes, n: usize, commands: Section, uses: &mut Uses) -> Verdict
     requires { ⌜ (Stands (now t) 5 commands) × (Commands-ready (now t) (now notes) (now uses) n) ⌝ }
     ensures { λ r. ⌜ Checked r (each (count (now (t .entry)) 5) (command-fault (now (t .entry)))) (Commands-counted (now (t .entry)) (now (uses .entry)) (now (uses .exit)) (count (now (t .entry)) 5)) ⌝ }
 {
@@ -111,7 +112,7 @@ fn is_one(uses: u32) -> u32
 }
 
 // Whether each of n nodes is used exactly once. Without an early return the loop takes several nodes in one step.
-fn all_used_once(n: usize, uses: &[u32; 512]) -> bool
+fn all_used_once(n: usize, uses: &Uses) -> bool
     requires { ⌜ n ≤ 512 ⌝ }
     ensures { λ r. ⌜ (r ≡ true → (i : ℕ) → i < n → word (now (uses .entry)) i ≡ 1) ⌝ }
 {
@@ -123,7 +124,7 @@ fn all_used_once(n: usize, uses: &[u32; 512]) -> bool
 }
 
 // 9 for the lowest node that isn't used exactly once.
-fn check_uses(nodes: Section, uses: &[u32; 512]) -> Verdict
+fn check_uses(nodes: Section, uses: &Uses) -> Verdict
     requires { ⌜ (nodes .count ≤ 512) × (nodes .at + 3 * nodes .count < 2 ^ 64) ⌝ }
     ensures { λ r. ⌜ ((t : Words) → Stands t 4 nodes → All-counted t (now (uses .entry)) → verdict-of r ≡ each (count t 4) (use-fault t)) ⌝ }
 {
@@ -143,10 +144,10 @@ fn check_uses(nodes: Section, uses: &[u32; 512]) -> Verdict
 // The whole check. Where it passes: the layout; the note of each node; the first field and the size of each record; the offset of each field.
 pub fn check(
     t: &[u32],
-    first: &mut [u32; 33],
-    sizes: &mut [u32; 32],
-    offsets: &mut [u32; 128],
-    notes: &mut [u32; 512],
+    first: &mut Firsts,
+    sizes: &mut Sizes,
+    offsets: &mut Offsets,
+    notes: &mut Notes,
 ) -> Parsed
     requires { ⌜ Lists-ready (now first) (now sizes) (now offsets) (now notes) ⌝ }
     ensures { λ r. ⌜ Checks (now (t .entry)) (now (first .entry)) (now (first .exit)) (now (sizes .entry)) (now (sizes .exit)) (now (offsets .entry)) (now (offsets .exit)) (now (notes .entry)) (now (notes .exit)) r ⌝ }
@@ -155,8 +156,8 @@ pub fn check(
         Parsed::Is(l) => l,
         Parsed::Refused(n, p) => return Parsed::Refused(n, p),
     };
-    let mut entry = [0u32; 98];
-    let mut uses = [0u32; 512];
+    let mut entry = [0u32; Table::TYPES + Table::RECORDS];
+    let mut uses = [0u32; Table::NODES];
     if let Verdict::Refused(n, p) = layout::check_types(t, l, first, &mut entry) {
         return Parsed::Refused(n, p);
     }

@@ -1,80 +1,93 @@
 -- `commands::execute` meets its contract. The loop's invariant: the commands below c are done as the rules say. Assumes nothing.
 use Prim.Native.Nat.{_≤_, _-_}
-use mathlib.Core.Path.{_≡_, refl}
+use mathlib.Core.Path.{_≡_, refl, _∙_}
+use mathlib.Core.List.{map}
 use native.Mathlib.Omega.{arith}
 use borrow.Author.Needs.{needs}
 use lib.ListN.{length}
 use Rattle.semantics.specs.Words.{word}
+use Rattle.steps.specs.Answers.{slots, unused-slot}
 use Rattle.commands.proofs.Execution.{So-far, none-yet, all-done, command-words, command-ready, command-goes-on, command-aborts, command-full}
 use Rattle.commands.proofs.execute.Statement.{statement}
 use Rattle.commands.proofs.execute.Tie as tie
 
 abbrev Inv-loop : tie.InvT-loop
-Inv-loop t at total l first values₀ bases₀ ends₀ s₀ c₀ values bases ends s c =
-    (c ≤ total) × So-far t values₀ bases₀ ends₀ first values bases ends (word s 2) c × (length s ≡ 3) × (length values ≡ length values₀) × (length bases ≡ length bases₀) × (length ends ≡ length ends₀)
+Inv-loop t at total l first m₀ s₀ c₀ m s c =
+    (c ≤ total) × So-far t (map (λ x. x .now) m₀) first (map (λ x. x .now) m) (word s unused-slot) c × (length s ≡ slots) × (map (λ x. x .name) m ≡ map (λ x. x .name) m₀)
 
 abbrev μ-loop : tie.MeasureT-loop
-μ-loop t at total l first values₀ bases₀ ends₀ s₀ c₀ values bases ends s c = total - c
+μ-loop t at total l first m₀ s₀ c₀ m s c = total - c
 
 loop-holds : tie.Need-loop-holds Inv-loop μ-loop
-loop-holds c = (omega arith, none-yet _ _ _ _ _, refl, refl, refl, refl)
+loop-holds c = (omega arith, none-yet _ _ _, refl, refl)
+
+-- The words of command c stand in the table.
+mul-k : tie.Need-mul-k Inv-loop μ-loop
+mul-k c = omega (arith, command-words (c .before .before .before .before .pre) (c .before .before .loop .c) (omega arith) .2)
+
+add-k : tie.Need-add-k Inv-loop μ-loop
+add-k c = omega (arith, command-words (c .before .before .before .before .pre) (c .before .before .loop .c) (omega arith) .2)
+
+mul-index : tie.Need-mul-index Inv-loop μ-loop
+mul-index c = omega (arith, command-words (c .before .before .before .before .pre) (c .before .before .loop .c) (omega arith) .2)
+
+shared-slice-read-index : tie.Need-shared-slice-read-index Inv-loop μ-loop
+shared-slice-read-index c = omega (arith, command-words (c .before .before .before .before .before .pre) (c .before .before .before .loop .c) (omega arith) .2)
+
+add-index : tie.Need-add-index Inv-loop μ-loop
+add-index c = omega (arith, command-words (c .before .before .before .before .before .before .pre) (c .before .before .before .before .loop .c) (omega arith) .2)
+
+mul-index-2 : tie.Need-mul-index-2 Inv-loop μ-loop
+mul-index-2 c = omega (arith, command-words (c .before .before .before .before .before .before .pre) (c .before .before .before .before .loop .c) (omega arith) .2)
+
+shared-slice-read-index-2 : tie.Need-shared-slice-read-index-2 Inv-loop μ-loop
+shared-slice-read-index-2 c = omega (arith, command-words (c .before .before .before .before .before .before .before .pre) (c .before .before .before .before .before .loop .c) (omega arith) .2)
 
 command-requires : tie.Need-command-requires Inv-loop μ-loop
 command-requires c κs =
-    let inv = c .before .before .before .before .before .before .before .before .before .before .loop .inv in
-    command-ready (c .before .before .before .before .before .before .before .before .before .before .before .before .before .before .before .pre) (c .before .before .before .before .before .before .before .before .before .before .loop .s) (inv .1) (inv .2) (omega arith) (cc (c .before .before .before .before .before .before .before .before .index .ensures .0, c .before .before .before .before .before .before .index2 .ensures .0)) (cc (c .before .before .before .before .before .before .before .before .index .ensures .0, c .before .before .before .before .index3 .ensures .0))
+    let inv = c .before .before .before .before .before .before .before .before .loop .inv in
+    command-ready (c .before .before .before .before .before .before .before .before .before .before .pre) (c .before .before .before .before .before .before .before .before .loop .s) (inv .1) (inv .2) (omega arith) (cc (c .before .before .before .before .before .before .index .ensures .0, c .before .before .before .before .index2 .ensures .0)) (cc (c .before .before .before .before .before .before .index .ensures .0, c .before .before .index3 .ensures .0))
+
+array-read-t23 : tie.Need-array-read-t23 Inv-loop μ-loop
+array-read-t23 c = omega (arith, c .before .command .ensures .0 .room)
+
+array-read-t26 : tie.Need-array-read-t26 Inv-loop μ-loop
+array-read-t26 c = omega (arith, c .before .before .command .ensures .0 .room)
+
+array-read-t29 : tie.Need-array-read-t29 Inv-loop μ-loop
+array-read-t29 c = omega (arith, c .before .loop .inv)
+
+add-c : tie.Need-add-c Inv-loop μ-loop
+add-c c = omega arith
+
+loop-less : tie.Need-loop-less Inv-loop μ-loop
+loop-less c = omega arith
 
 returns : tie.Need-returns Inv-loop μ-loop
 returns c =
-    let inv = c .before .before .before .before .before .before .before .before .before .before .before .before .before .before .before .before .before .before .loop .inv in
-    command-aborts (c .before .before .before .before .before .before .before .before .before .before .before .before .before .before .before .before .before .before .before .before .before .before .before .pre) (c .before .before .before .before .before .before .before .before .before .before .before .before .before .before .before .before .before .before .loop .s) (inv .1) (inv .2) (omega arith) (cc (c .before .before .before .before .before .before .before .before .before .before .before .before .before .before .before .before .index .ensures .0, c .before .before .before .before .before .before .before .before .before .before .before .before .before .before .index2 .ensures .0)) (cc (c .before .before .before .before .before .before .before .before .before .before .before .before .before .before .before .before .index .ensures .0, c .before .before .before .before .before .before .before .before .before .before .before .before .index3 .ensures .0)) (c .before .before .before .before .before .before .before .command .ensures) (c .if1 .taken)
+    let inv = c .before .before .before .before .before .before .before .before .before .before .loop .inv in (
+      command-aborts (c .before .before .before .before .before .before .before .before .before .before .before .before .pre) (c .before .before .before .before .before .before .before .before .before .before .loop .s) (inv .1) (inv .2) (omega arith) (cc (c .before .before .before .before .before .before .before .before .index .ensures .0, c .before .before .before .before .before .before .index2 .ensures .0)) (cc (c .before .before .before .before .before .before .before .before .index .ensures .0, c .before .before .before .before .index3 .ensures .0)) (c .before .command .ensures .0) (c .if1 .taken),
+      c .before .command .ensures .1 ∙ inv .3,
+    )
 
 returns-2 : tie.Need-returns-2 Inv-loop μ-loop
 returns-2 c =
-    let inv = c .before .before .before .before .before .before .before .before .before .before .before .before .before .before .before .before .before .before .before .loop .inv in
-    command-full (c .before .before .before .before .before .before .before .before .before .before .before .before .before .before .before .before .before .before .before .before .before .before .before .before .pre) (c .before .before .before .before .before .before .before .before .before .before .before .before .before .before .before .before .before .before .before .loop .s) (inv .1) (inv .2) (omega arith) (cc (c .before .before .before .before .before .before .before .before .before .before .before .before .before .before .before .before .before .index .ensures .0, c .before .before .before .before .before .before .before .before .before .before .before .before .before .before .before .index2 .ensures .0)) (cc (c .before .before .before .before .before .before .before .before .before .before .before .before .before .before .before .before .before .index .ensures .0, c .before .before .before .before .before .before .before .before .before .before .before .before .before .index3 .ensures .0)) (c .before .before .before .before .before .before .before .before .command .ensures) (c .if2 .taken)
+    let inv = c .before .before .before .before .before .before .before .before .before .before .before .loop .inv in (
+      command-full (c .before .before .before .before .before .before .before .before .before .before .before .before .before .pre) (c .before .before .before .before .before .before .before .before .before .before .before .loop .s) (inv .1) (inv .2) (omega arith) (cc (c .before .before .before .before .before .before .before .before .before .index .ensures .0, c .before .before .before .before .before .before .before .index2 .ensures .0)) (cc (c .before .before .before .before .before .before .before .before .before .index .ensures .0, c .before .before .before .before .before .index3 .ensures .0)) (c .before .before .command .ensures .0) (c .if2 .taken),
+      c .before .before .command .ensures .1 ∙ inv .3,
+    )
 
 loop-again : tie.Need-loop-again Inv-loop μ-loop
 loop-again c =
-    let inv = c .before .before .before .before .before .before .before .before .before .before .before .before .before .before .before .before .before .before .before .loop .inv in
-    (omega arith, command-goes-on (c .before .before .before .before .before .before .before .before .before .before .before .before .before .before .before .before .before .before .before .before .before .before .before .before .pre) (c .before .before .before .before .before .before .before .before .before .before .before .before .before .before .before .before .before .before .before .loop .s) (inv .1) (inv .2) (omega arith) (cc (c .before .before .before .before .before .before .before .before .before .before .before .before .before .before .before .before .before .index .ensures .0, c .before .before .before .before .before .before .before .before .before .before .before .before .before .before .before .index2 .ensures .0)) (cc (c .before .before .before .before .before .before .before .before .before .before .before .before .before .before .before .before .before .index .ensures .0, c .before .before .before .before .before .before .before .before .before .before .before .before .before .index3 .ensures .0)) (c .before .before .before .before .before .before .before .before .command .ensures) (omega arith), c .before .before .before .before .before .before .before .before .command .ensures .room, omega arith, omega arith, omega arith)
+    let inv = c .before .before .before .before .before .before .before .before .before .before .before .loop .inv in (
+      omega arith,
+      command-goes-on (c .before .before .before .before .before .before .before .before .before .before .before .before .before .pre) (c .before .before .before .before .before .before .before .before .before .before .before .loop .s) (inv .1) (inv .2) (omega arith) (cc (c .before .before .before .before .before .before .before .before .before .index .ensures .0, c .before .before .before .before .before .before .before .index2 .ensures .0)) (cc (c .before .before .before .before .before .before .before .before .before .index .ensures .0, c .before .before .before .before .before .index3 .ensures .0)) (c .before .before .command .ensures .0) (omega arith),
+      c .before .before .command .ensures .0 .room,
+      c .before .before .command .ensures .1 ∙ inv .3,
+    )
 
 returns-3 : tie.Need-returns-3 Inv-loop μ-loop
-returns-3 c = all-done (c .before .loop .inv .1) (omega (arith, c .before .before .before .before .before .before .pre .all))
+returns-3 c = (all-done (c .before .loop .inv .1) (omega (arith, c .before .before .before .pre .all)), c .before .loop .inv .3)
 
 pub execute-spec : {M : Type 1} → statement M
-execute-spec =
-    tie.close
-    (tie.spec
-    Inv-loop
-    μ-loop
-    loop-holds
-    (λ c κs. search needs)
-    (λ c. omega (arith, command-words (c .before .before .before .before .before .before .before .pre) (c .before .before .loop .c) (omega arith) .2))
-    (λ c. omega (arith, command-words (c .before .before .before .before .before .before .before .pre) (c .before .before .loop .c) (omega arith) .2))
-    (λ c. omega (arith, command-words (c .before .before .before .before .before .before .before .pre) (c .before .before .loop .c) (omega arith) .2))
-    (λ c. omega (arith, command-words (c .before .before .before .before .before .before .before .before .pre) (c .before .before .before .loop .c) (omega arith) .2))
-    (λ c κs. search needs)
-    (λ c. omega (arith, command-words (c .before .before .before .before .before .before .before .before .before .pre) (c .before .before .before .before .loop .c) (omega arith) .2))
-    (λ c. omega (arith, command-words (c .before .before .before .before .before .before .before .before .before .pre) (c .before .before .before .before .loop .c) (omega arith) .2))
-    (λ c. omega (arith, command-words (c .before .before .before .before .before .before .before .before .before .before .pre) (c .before .before .before .before .before .loop .c) (omega arith) .2))
-    (λ c κs. search needs)
-    command-requires
-    (λ c. omega (arith, c .before .before .before .before .before .before .before .command .ensures .room))
-    (λ c. search needs)
-    (λ c. search needs)
-    (λ c. search needs)
-    returns
-    (λ c. omega (arith, c .before .before .before .before .before .before .before .before .command .ensures .room))
-    (λ c. search needs)
-    (λ c. search needs)
-    (λ c. search needs)
-    returns-2
-    (λ c. omega arith)
-    (λ c. omega arith)
-    loop-again
-    (λ c. omega (arith, c .before .loop .inv))
-    (λ c. search needs)
-    (λ c. search needs)
-    (λ c. search needs)
-    returns-3)
+execute-spec = tie.close (tie.spec Inv-loop μ-loop loop-holds (λ c κs. search needs) mul-k add-k mul-index shared-slice-read-index (λ c κs. search needs) add-index mul-index-2 shared-slice-read-index-2 (λ c κs. search needs) command-requires array-read-t23 returns array-read-t26 returns-2 add-c loop-less loop-again array-read-t29 returns-3)

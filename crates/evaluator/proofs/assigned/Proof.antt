@@ -1,25 +1,22 @@
 -- `evaluator::assigned` meets its contract. Assumes nothing.
 use borrow.Author.Needs.{needs}
-use native.Mathlib.Omega.{arith}
 use mathlib.Core.Path.{refl}
-use Rattle.evaluator.proofs.Evaluation.{place-item, variable-small, assigned-variable}
+use native.Mathlib.Omega.{arith}
+use Rattle.evaluator.proofs.Evaluation.{item-at, note-at, is-variable, assigned-variable, assigned-place}
 use Rattle.evaluator.proofs.assigned.Statement.{statement}
 use Rattle.evaluator.proofs.assigned.Tie as tie
 
+noted-requires : tie.Need-noted-requires
+noted-requires c κs = note-at (c .pre)
+
+item-requires : tie.Need-item-requires
+item-requires c κs = item-at (c .before .before .before .pre) 1 (omega arith)
+
 returns : tie.Need-returns
-returns c =
-    let d = c .before .before .before in
-    let small = variable-small (d .before .pre) (d .item .ensures) (c .before .before .if1 .taken) (c .before .item2 .ensures) in
-    assigned-variable (d .item .ensures) (c .before .item2 .ensures) (c .before .before .if1 .taken) (small .1) (c .long .ensures .0) refl (omega arith)
+returns c = (assigned-variable (c .before .item .ensures) (c .before .before .before .before .before .pre) (is-variable (c .before .before .before .before .noted .ensures) (c .before .before .if1 .taken) (c .before .before .before .of-variable .ensures)) (c .long .ensures .0) refl, refl)
+
+returns-2 : tie.Need-returns-2
+returns-2 c = (assigned-place (c .place .ensures .0), c .place .ensures .1)
 
 pub assigned-spec : {M : Type 1} → statement M
-assigned-spec =
-    tie.close
-    (tie.spec
-    (λ c κs. place-item (c .pre) 0 (omega arith))
-    (λ c κs. place-item (c .before .before .pre) 1 (omega arith))
-    (λ c κs. search needs)
-    (λ c. search needs)
-    returns
-    (λ c κs. search needs)
-    (λ c. search needs))
+assigned-spec = tie.close (tie.spec noted-requires (λ c κs. search needs) item-requires (λ c κs. search needs) (λ c. search needs) returns (λ c κs. search needs) returns-2)

@@ -1,28 +1,36 @@
--- `evaluator::read_variable` meets its contract.
+-- `evaluator::read_variable` meets its contract. Assumes nothing.
 use borrow.Author.Needs.{needs}
 use native.Mathlib.Omega.{arith}
 use mathlib.Core.Path.{refl, _∙_}
-use Rattle.evaluator.proofs.Evaluation.{value-item, value-type, read-item, variable-inside, variable-under, variable-read, read-variable-answer}
+use Rattle.steps.proofs.Finish.{load-done}
+use Prim.Native.Nat.{_+_, _<_}
+use Rattle.steps.specs.Answers.{failed}
+use Rattle.evaluator.proofs.Evaluation.{item-at, item-of, note-of, variable-below, variable-inside, variable-read, kept-lists}
 use Rattle.evaluator.proofs.read_variable.Statement.{statement}
 use Rattle.evaluator.proofs.read_variable.Tie as tie
 
 child-requires : tie.Need-child-requires
-child-requires c κs = value-item (c .pre .0) 1 (omega arith)
+child-requires c κs = item-at (c .pre .0) 1 (omega arith)
 
 item-requires : tie.Need-item-requires
-item-requires c κs = read-item (c .before .pre .0) refl (c .child .ensures) (c .before .pre .1 .reads) 1 (omega arith)
+item-requires c κs = item-of (c .before .before .pre .0) (variable-below (c .before .child .ensures) (c .before .before .pre .0) (c .before .before .pre .1)) 1 (omega arith)
 
 type-of-requires : tie.Need-type-of-requires
-type-of-requires c κs = value-type (c .before .before .before .pre .0)
+type-of-requires c κs = note-of (c .before .before .before .before .pre .0) (variable-below (c .before .before .before .child .ensures) (c .before .before .before .before .pre .0) (c .before .before .before .before .pre .1))
 
-load-requires : tie.Need-load-requires
-load-requires c κs = (c .before .before .before .before .before .pre .0 .room, λ under. variable-inside (c .before .before .before .before .before .pre .0) refl (c .before .before .before .before .child .ensures) (c .before .before .before .before .before .pre .1 .reads) refl (variable-read (c .before .before .before .before .before .pre .1) (c .before .before .before .before .child .ensures)) (c .before .before .long .ensures .0 ∙ c .before .before .before .item .ensures))
+fetch-requires : tie.Need-fetch-requires
+fetch-requires c κs =
+    let h = c .before .before .before .before .before .before .pre .0 in
+    let w = variable-inside (c .before .before .before .before .before .child .ensures) (c .before .before .before .before .before .before .pre .1) (c .before .before .index .ensures .0 ∙ c .before .before .before .item .ensures) refl h in
+    (omega (arith, w), w .0, w .1, w .2, h .room)
 
 returns : tie.Need-returns
-returns c = let p = c .before .before .before .before .before .before .pre in
-    let one = variable-read (p .1) (c .before .before .before .before .before .child .ensures) in
-    let i = c .before .before .before .long .ensures .0 ∙ c .before .before .before .before .item .ensures in
-    read-variable-answer refl (c .before .before .before .before .before .child .ensures) (p .1 .reads) refl one i refl (variable-under (p .0) refl (c .before .before .before .before .before .child .ensures) (p .1 .reads) refl one i) (c .before .before .type-of .ensures) (c .load .ensures .0) (c .load .ensures .1)
+returns c =
+    let h = c .before .before .before .before .before .before .before .pre .0 in
+    let i = c .before .before .before .index .ensures .0 ∙ c .before .before .before .before .item .ensures in
+    let w = variable-inside (c .before .before .before .before .before .before .child .ensures) (c .before .before .before .before .before .before .before .pre .1) i refl h in
+    let under : c .before .before .before .index .result + 1 < failed = omega (arith, w) in
+    (kept-lists (c .fetch .ensures .1) (variable-read (c .before .before .before .before .before .before .child .ensures) (c .before .before .before .before .before .before .before .pre .1) i refl under (c .before .before .type-of .ensures) (load-done _ _ under (c .fetch .ensures .0))), c .fetch .ensures .1)
 
 pub read-variable-spec : {M : Type 1} → statement M
-read-variable-spec = tie.close (tie.spec child-requires item-requires (λ c κs. search needs) (λ c. search needs) type-of-requires load-requires returns)
+read-variable-spec = tie.close (tie.spec child-requires item-requires (λ c κs. search needs) (λ c. search needs) type-of-requires fetch-requires returns)

@@ -11,7 +11,7 @@ returns : tie.Need-returns
 returns c = told-other (c .before .before .before .enter .ensures _) (c .before .r .given .1)
 
 count-use-requires : tie.Need-count-use-requires
-count-use-requires c κs = c .before .before .before .before .before .pre .3 (sym (c .before .before .before .enter .ensures [] .verdict) ∙ ap verdict-of (c .before .enum-told .given .1))
+count-use-requires c κs = c .before .before .before .before .before .pre .0 .3 (sym (c .before .before .before .enter .ensures [] .verdict) ∙ ap verdict-of (c .before .enum-told .given .1))
 
 returns-2 : tie.Need-returns-2
 returns-2 c = told-more (c .before .before .before .before .enter .ensures []) (c .before .before .enum-told .given .1) (c .count-use .ensures)

@@ -7,7 +7,7 @@ use Rattle.nodes.proofs.with_children.Statement.{statement}
 use Rattle.nodes.proofs.with_children.Tie as tie
 
 with-child-requires : tie.Need-with-child-requires
-with-child-requires c κs = (c .before .before .pre .0, c .before .before .pre .1, c .before .before .pre .2, λ p. c .before .before .pre .3 p .first)
+with-child-requires c κs = let p = c .before .before .pre in ((p .0 .0, p .0 .1, p .0 .2, λ q. p .0 .3 q .first), p .1)
 
 returns : tie.Need-returns
 returns c = told-other (c .before .before .before .with-child .ensures) (c .before .r .given .1)
@@ -15,7 +15,7 @@ returns c = told-other (c .before .before .before .with-child .ensures) (c .befo
 count-use-requires : tie.Need-count-use-requires
 count-use-requires c κs = let told = c .before .before .before .with-child .ensures in
     let pass = sym (told .verdict) ∙ ap verdict-of (c .before .enum-told .given .1) in
-    countable-next (c .before .before .before .before .before .before .pre .3 pass) (told-counted told pass)
+    countable-next (c .before .before .before .before .before .before .pre .0 .3 pass) (told-counted told pass)
 
 returns-2 : tie.Need-returns-2
 returns-2 c = let told = c .before .before .before .before .with-child .ensures in

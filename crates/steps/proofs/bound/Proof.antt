@@ -1,6 +1,6 @@
 -- `steps::bound` meets its contract. Assumes nothing.
 use borrow.Author.Needs.{needs}
-use Rattle.steps.proofs.Memory.{bounded}
+use Rattle.steps.proofs.Slots.{bounded}
 use Rattle.steps.proofs.bound.Statement.{statement}
 use Rattle.steps.proofs.bound.Tie as tie
 

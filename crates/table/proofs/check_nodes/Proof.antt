@@ -8,7 +8,7 @@ use Rattle.semantics.specs.Table.{count}
 use Rattle.layout.specs.Lists.{filled}
 use Rattle.layout.proofs.Laws.{refusal, each-refuses, each-all}
 use Rattle.layout.proofs.Lists.{filled-none}
-use Rattle.nodes.specs.Nodes.{note}
+use Rattle.layout.specs.Notes.{note}
 use Rattle.nodes.proofs.Answers.{verdict-refuses, verdict-passes}
 use Rattle.table.specs.Promises.{Nodes-noted}
 use Rattle.table.proofs.Nodes.{nodes-none, reached, room, nodes-more, notes-all, notes-more, notes-to}

@@ -1,0 +1,4 @@
+pub mod Reborrow
+pub mod Arguments
+pub mod Walk
+pub mod Lending

@@ -1,0 +1,24 @@
+// The memory as one array: the three lists of a caller, lent on for one call.
+ghost use mathlib.Core.List.{map};
+ghost use Rattle.commands.specs.Command.{lists};
+ghost use Rattle.commands.specs.Execution.{Executable, Executed};
+use commands::Ended;
+use lookups::Lists;
+
+// The commands of a table over three lists.
+pub fn execute(
+    t: &[u32],
+    at: usize,
+    total: u32,
+    l: &Lists,
+    first: u32,
+    values: &mut [u32],
+    bases: &mut [u32],
+    ends: &mut [u32],
+) -> Ended
+    requires { ⌜ Executable (now t) (map (λ x. now x) (now l)) at total first (lists (now values) (now bases) (now ends)) ⌝ }
+    ensures { λ r. ⌜ Executed (now (t .entry)) (lists (now (values .entry)) (now (bases .entry)) (now (ends .entry))) first r (lists (now (values .exit)) (now (bases .exit)) (now (ends .exit))) ⌝ }
+{
+    let mut m = [values, bases, ends];
+    commands::execute(t, at, total, l, first, &mut m)
+}
