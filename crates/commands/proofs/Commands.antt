@@ -19,7 +19,7 @@ use Rattle.steps.specs.Answers.{base-slot, end-slot, unused-slot, failed, state
 use Rattle.steps.proofs.Finish.{passed-on, touched}
 use Rattle.lookups.proofs.Lookups.{noted-type}
 use Rattle.evaluator.specs.Result.{Place-ready, Value-ready, Value-answered, Assigned-answered}
-use Rattle.evaluator.proofs.Evaluation.{Worked-out, worked-out}
+use Rattle.evaluator.proofs.Outcomes.{Worked-out, worked-out}
 use Rattle.commands.specs.Command.{Command-nodes, Command-ready, Stored, Done-is, Command-answered}
 
 -- ---- the store

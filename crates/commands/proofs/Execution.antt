@@ -17,7 +17,7 @@ use Rattle.semantics.proofs.Passed.{Passed, section-ok, section-end}
 use Rattle.semantics.proofs.Trees.{command-ok}
 use Rattle.semantics.proofs.Safety.{commands-ok}
 use Rattle.words.specs.Columns.{column}
-use Rattle.evaluator.proofs.Evaluation.{own-length}
+use Rattle.evaluator.proofs.Outcomes.{own-length}
 use Rattle.steps.specs.Answers.{slots, unused-slot, failed, state-of, Answers, answers-ok, answers-failed, answers-full}
 use Rattle.commands.specs.Command.{Command-nodes, Command-ready, Command-answered, Done-is}
 use Rattle.commands.specs.Execution.{ended-of, Starts, Executable, Ends, Executed}

@@ -1,3 +1,6 @@
 -- Laws that the functions' proofs cite.
 pub mod Nodes
+pub mod Outcomes
+pub mod Ready
 pub mod Evaluation
+pub mod Noted

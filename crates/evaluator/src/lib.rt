@@ -77,17 +77,6 @@ fn drops(l: &Lists, n: usize) -> bool
     type_of(l, child(l, n, A)) != 0
 }
 
-// The value of node n, a pointer that is followed or the left operand of a sum.
-fn operand(l: &Lists, m: &mut Memory, n: usize, s: &mut Slots) -> u64
-    requires { ⌜ Value-ready (map (λ x. now x) (now l)) (map (λ x. now x) (now m)) n (now s) ⌝ }
-    ensures { λ r. ⌜ (Value-answered (map (λ x. now x) (now (l .entry))) (map (λ x. now x) (now (m .entry))) n (now (s .entry)) r (map (λ x. now x) (now (m .exit))) (now (s .exit))) × (map (λ x. name x) (now (m .exit)) ≡ map (λ x. name x) (now (m .entry))) ⌝ }
-{
-    if of_variable(noted(l, n)) {
-        return read_variable(l, m, n, s);
-    }
-    value(l, m, n, s)
-}
-
 // The place that node n is, with its bounds.
 pub fn place(l: &Lists, m: &mut Memory, n: usize, s: &mut Slots) -> u64
     requires { ⌜ Place-ready (map (λ x. now x) (now l)) (map (λ x. now x) (now m)) n (now s) ⌝ }
@@ -96,11 +85,21 @@ pub fn place(l: &Lists, m: &mut Memory, n: usize, s: &mut Slots) -> u64
     match item(l, n, KIND) {
         kind::VARIABLE => variable(item(l, n, A), s),
         kind::DEREF => {
-            let v = operand(l, m, child(l, n, A), s);
+            let c = child(l, n, A);
+            let v = if of_variable(noted(l, c)) {
+                read_variable(l, m, c, s)
+            } else {
+                value(l, m, c, s)
+            };
             deref(n, v, s)
         }
         _ => {
-            let v = operand(l, m, child(l, n, A), s);
+            let c = child(l, n, A);
+            let v = if of_variable(noted(l, c)) {
+                read_variable(l, m, c, s)
+            } else {
+                value(l, m, c, s)
+            };
             field(n, v, offset(l, n), count(l, n), s)
         }
     }
@@ -114,19 +113,24 @@ pub fn value(l: &Lists, m: &mut Memory, n: usize, s: &mut Slots) -> u64
     match item(l, n, KIND) {
         kind::CONSTANT => number(item(l, n, A), s),
         kind::SUM => {
-            let v = operand(l, m, child(l, n, A), s);
+            let c = child(l, n, A);
+            let v = if of_variable(noted(l, c)) {
+                read_variable(l, m, c, s)
+            } else {
+                value(l, m, c, s)
+            };
             if FAILED <= v {
                 return v;
             }
             // The child's number is read again: kept over the call, it would be one register more for every call to save.
             let by = step(l, type_of(l, child(l, n, A)));
-            let c = child(l, n, B);
-            if is_constant(noted(l, c)) {
-                return add(v, by, long(item(l, c, A)));
+            let d = child(l, n, B);
+            if is_constant(noted(l, d)) {
+                return add(v, by, long(item(l, d, A)));
             }
             let base = s[BASE];
             let end = s[END];
-            let w = value(l, m, c, s);
+            let w = value(l, m, d, s);
             sum(v, base, end, by, w, s)
         }
         kind::READ => {
@@ -164,10 +168,14 @@ pub fn result(l: &Lists, m: &mut Memory, n: usize, s: &mut Slots) -> u64
     requires { ⌜ Value-ready (map (λ x. now x) (now l)) (map (λ x. now x) (now m)) n (now s) ⌝ }
     ensures { λ r. ⌜ (Value-answered (map (λ x. now x) (now (l .entry))) (map (λ x. now x) (now (m .entry))) n (now (s .entry)) r (map (λ x. now x) (now (m .exit))) (now (s .exit))) × (map (λ x. name x) (now (m .exit)) ≡ map (λ x. name x) (now (m .entry))) ⌝ }
 {
-    if is_constant(noted(l, n)) {
+    let x = noted(l, n);
+    if is_constant(x) {
         return number(item(l, n, A), s);
     }
-    operand(l, m, n, s)
+    if of_variable(x) {
+        return read_variable(l, m, n, s);
+    }
+    value(l, m, n, s)
 }
 
 // The place that a command assigns to, node n: for a variable its word, with no more work. Its bounds are not asked.

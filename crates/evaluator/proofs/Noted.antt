@@ -1,0 +1,137 @@
+-- Nodes that are worked out without a call, by what is noted of them.
+use Prim.Native.Nat.{ℕ, _+_, _/_, _%_, _<_}
+use mathlib.Core.Bool.{Bool, true}
+use mathlib.Core.Path.{_≡_, sym, _∙_}
+use mathlib.Core.List.{List}
+use native.Mathlib.Omega.{arith}
+use lib.Dec.{eqb}
+use lib.ListN.{length}
+use Rattle.words.specs.Columns.{column}
+use Rattle.semantics.specs.Words.{Words, word}
+use Rattle.semantics.specs.Table.{nodes, count, variable, constant, read, kind-of, sort-of, node-kind, node-a, node-b, node-type}
+use Rattle.semantics.specs.Table as Table
+use Rattle.semantics.specs.Rules.{unbounded, variable-location, place-at}
+use Rattle.semantics.proofs.Passed.{require-passes}
+use Rattle.semantics.specs.Check.{is-child}
+use Rattle.semantics.proofs.Trees.{Node-ok, node-ok, is-child-true}
+use Rattle.semantics.proofs.Steps.{place-good, value-good}
+use Rattle.lookups.specs.Lists.{part, Lists}
+use Rattle.steps.specs.Answers.{failed, Datum-is, answers-ok, Given, Load-finishes, Malloc-finishes}
+use Rattle.evaluator.specs.Result.{Place-ready, Value-ready, Place-answered, Value-answered, Assigned-answered, Reads-variable}
+use Rattle.lookups.proofs.Lookups.{noted-type, constant-bit, variable-bit, read-bit}
+use Rattle.evaluator.proofs.Nodes.{place-node, value-node, kind-number, constant-node, variable-node, read-node, malloc-node}
+use Rattle.evaluator.proofs.Outcomes.{weakened, place-only}
+use Rattle.evaluator.proofs.Ready.{kind-is, a-is, read-type}
+use Rattle.evaluator.proofs.Evaluation.{from-none}
+
+-- ---- nodes worked out without a call, by what is noted of them
+
+module _ {l : List Words} {n x : ℕ} {f : Bool} (e : x ≡ word (column l 1) n) (taken : f ≡ true) where
+  pub is-constant : f ≡ eqb (x / 128 % 2) 1 → (t : Words) → Lists t l → n < count t nodes → node-kind t n ≡ constant
+  is-constant h t lists node = constant-bit lists node e taken h
+
+  pub is-variable : f ≡ eqb (x / 256 % 2) 1 → (t : Words) → Lists t l → n < count t nodes → sort-of (node-kind t n) ≡ Table.place → node-kind t n ≡ variable
+  is-variable h t lists node sort = variable-bit lists node e taken h sort
+
+  pub reads-variable : f ≡ eqb (x / 256 % 2) 1 → Reads-variable l n
+  unfolding kind-of
+  reads-variable h =
+      record {
+        each = λ t lists node sort.
+            let b = read-bit lists node e taken h sort in
+            (b .0, kind-number t (node-a t n) (b .1));
+      }
+
+-- A read whose child is noted so.
+pub reads-noted : {l : List Words} {n k a x : ℕ} {f : Bool} → k ≡ part l n 0 → k ≡ 6 → a ≡ part l n 1 → x ≡ word (column l 1) a → f ≡ true → f ≡ eqb (x / 256 % 2) 1 → Reads-variable l n
+unfolding kind-of
+reads-noted {n = n} e q p hx taken h =
+    record {
+      each = λ t lists node sort.
+          let i = kind-is lists node e q in
+          let g : Node-ok t n read (node-a t n) (node-b t n) = rw i at (node-ok t n (lists .passed .node-passes n node)) in
+          let ch = is-child-true t Table.place n (node-a t n) (require-passes (is-child t Table.place n (node-a t n)) 7 _ (g .a-ok)) in
+          (i, variable-bit lists (omega (arith, ch .0)) (rw (a-is lists node p) at hx) taken h (sym (ch .1)));
+    }
+
+module _ {l m : List Words} {n : ℕ} {s : Words} {a : ℕ} (p : a ≡ part l n 1) where
+  pub constant-answer : {r : ℕ} {s′ : Words} → ((t : Words) → Lists t l → n < count t nodes → node-kind t n ≡ constant) → Given Datum-is (unbounded a) s r s′ → Value-answered l m n s r m s′
+  unfolding place-at
+  constant-answer q given =
+      from-none (λ t lists node vars h. (unbounded a, (λ st. rw (constant-node t n (q t lists node), ← a-is lists node p)), given)) (given .room)
+
+  -- A variable's word is read.
+  module _ {i w : ℕ} (reads : Reads-variable l n) (g : i ≡ part l a 1) (hw : w ≡ i + 1) where
+    pub variable-read : {y r : ℕ} {s′ : Words} → w < failed → y ≡ word (column l 1) a % 128 → Load-finishes y m w s r s′ → Value-answered l m n s r m s′
+    unfolding place-at
+    variable-read {y} under hy finish =
+        record {
+          room = finish .room;
+          meets = λ t lists node vars log inv h.
+              let k = reads .each t lists node (value-node t n h) in
+              let nd = read-node t n (k .0) h in
+              let p′ = a-is lists node p in
+              let less = nd .0 .less in
+              let tree = rw (← p′) at (nd .0 .tree) in
+              let inside : a < count t nodes = omega (arith, less, p′) in
+              let v = variable-node t a (rw p′ (k .1)) tree in
+              let i′ = a-is lists inside g in
+              let y′ : y ≡ node-type t n = noted-type lists inside hy .0 ∙ rw p′ (sym (read-type t n (k .0) less)) in
+              rw (nd .1, ← y′, ← p′, v .1, ← i′)
+              (finish .meets vars _ _ _ (answers-ok (variable-location i) log (record { at = omega arith }) under) (rw (v .1, ← i′) at (place-good tree _ inv)));
+        }
+
+    -- It lies in all three lists.
+    pub variable-inside : Value-ready l m n s → (w < length (column m 0)) × (w < length (column m 1)) × (w < length (column m 2)) × (w < 65536)
+    variable-inside h =
+        let t = h .table in
+        let k = reads .each t (h .lists) (h .node) (value-node t n (h .tree)) in
+        let nd = read-node t n (k .0) (h .tree) in
+        let p′ = a-is (h .lists) (h .node) p in
+        let inside : a < count t nodes = omega (arith, nd .0 .less, p′, h .node) in
+        let v = variable-node t a (rw p′ (k .1)) (rw (← p′) at (nd .0 .tree)) in
+        let less : i < h .state .vars = omega (arith, v .0, a-is (h .lists) inside g) in
+        omega (arith, h .state .inv .low, h .state .inv .high, h .state .inv .bases-length, h .state .inv .ends-length, h .state .most)
+
+  -- The node that it reads stands before it.
+  pub variable-below : Value-ready l m n s → Reads-variable l n → (a < n) × Unit {0}
+  variable-below h reads =
+      let t = h .table in
+      let k = reads .each t (h .lists) (h .node) (value-node t n (h .tree)) in
+      (rw (a-is (h .lists) (h .node) p) (read-node t n (k .0) (h .tree) .0 .less), tt)
+
+  -- The number of words is a constant: no slots are set for it.
+  pub malloc-constant-answer : {k i v r : ℕ} {s₂ : Words} → k ≡ part l n 0 → k ≡ 10 → ((t : Words) → Lists t l → a < count t nodes → node-kind t a ≡ constant) → i ≡ part l a 1 → v ≡ i → v < failed
+      → Malloc-finishes m v s r s₂ → Value-answered l m n s r m s₂
+  unfolding place-at kind-of
+  malloc-constant-answer {i = i} e q four x hv small finish =
+      record {
+        room = finish .room;
+        meets = λ t lists node vars log inv h.
+            let nd = malloc-node t n (kind-is lists node e q) h in
+            let p′ = a-is lists node p in
+            let inside : a < count t nodes = omega (arith, nd .0 .less, p′) in
+            let c = constant-node t a (four t lists inside) in
+            let i′ = a-is lists inside x in
+            rw (nd .1, ← p′, c, ← i′)
+            (finish .meets vars _ _ _ (answers-ok (unbounded i) log (record { value = sym hv }) small) (rw (c, ← i′) at (value-good (rw (← p′) at (nd .0 .tree)) _ inv)));
+      }
+
+  -- ---- a command's place
+
+  pub assigned-variable : {x r : ℕ} → Place-ready l m n s → ((t : Words) → Lists t l → n < count t nodes → sort-of (node-kind t n) ≡ Table.place → node-kind t n ≡ variable) → x ≡ a → r ≡ x + 1
+      → Assigned-answered l m n s r m s
+  unfolding place-at
+  assigned-variable {r = r} ready q hx hr =
+      let t = ready .table in
+      let v = variable-node t n (q t (ready .lists) (ready .node) (place-node t n (ready .tree))) (ready .tree) in
+      let small : r < failed = omega (arith, v .0, a-is (ready .lists) (ready .node) p, ready .state .inv .low, ready .state .inv .high, ready .state .most) in
+      record {
+        room = ready .room;
+        meets = λ t lists node vars log inv h.
+            rw (variable-node t n (q t lists node (place-node t n h)) h .1, ← a-is lists node p) (answers-ok (variable-location a) log (record { at = omega arith }) small);
+      }
+
+-- Of a place that was worked out, the bounds are not asked.
+pub assigned-place : {l m m′ : List Words} {n r : ℕ} {s s′ : Words} → Place-answered l m n s r m′ s′ → Assigned-answered l m n s r m′ s′
+assigned-place h = record { room = h .room; meets = λ t lists node vars log inv tree. weakened place-only (h .meets t lists node vars log inv tree) }
