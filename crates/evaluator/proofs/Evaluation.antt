@@ -1,11 +1,10 @@
 -- What a node answers, from what its children answered.
-use Prim.Native.Nat.{ℕ, zero, suc, _+_, _*_, _%_, _≤_, _<_}
+use Prim.Native.Nat.{ℕ, suc, _+_, _*_, _%_, _≤_, _<_}
 use mathlib.Core.Bool.{Bool, true, false, not, _&&_, false≢true}
 use mathlib.Core.Path.{_≡_, refl, sym, ap, ap₂, _∙_}
 use mathlib.Core.List.{List}
 use native.Mathlib.Omega.{arith}
-use borrow.Author.Tests.{le-leb, leb-false, ne-eqb}
-use lib.Dec.{eqb}
+use borrow.Author.Tests.{leb-false}
 use lib.ListN.{length}
 use Rattle.words.specs.Columns.{column}
 use Rattle.semantics.specs.Words.{Words, word}
@@ -15,9 +14,9 @@ use Rattle.semantics.specs.Rules.{Datum, Location, Event, State, Outcome, ok, f
 use Rattle.semantics.proofs.Ints.{cast-of-int}
 use Rattle.semantics.proofs.Invariant.{Inv, Datum-ok, Good}
 use Rattle.semantics.proofs.Steps.{Value-ok, place-good, value-good}
-use Rattle.lookups.specs.Lists.{part, Lists, Field-node, Known-word}
+use Rattle.lookups.specs.Lists.{part, to-int-from-pointer, Lists, Field-node, Known-word}
 use Rattle.steps.specs.Answers.{slots, base-slot, end-slot, unused-slot, failed, state-of, Datum-is, Location-is, Answers, answers-ok, answers-failed, answers-full, Given, Finishes, Deref-finishes, Field-finishes, Sum-finishes, Load-finishes, Cast-finishes, Malloc-finishes}
-use Rattle.evaluator.specs.Result.{Node-answered, Place-answered, Value-answered, to-int-from-pointer}
+use Rattle.evaluator.specs.Result.{Node-answered, Place-answered, Value-answered}
 use Rattle.steps.proofs.Finish.{passed-on, given-ok}
 use Rattle.lookups.proofs.Lookups.{noted-type}
 use Rattle.evaluator.proofs.Nodes.{value-node, offset-of, count-of, constant-node, size-node, variable-node, deref-node, field-node, sum-node, read-node, address-node, cast-node, malloc-node}
@@ -75,18 +74,6 @@ by-types : {t : Words} {l : List Words} {n : ℕ} {f : Bool} → Lists t l → n
 by-types {t} lists node less hf =
     let p′ = a-is lists node refl in
     hf ∙ ap₂ (λ b y. not (is-pointer b) && is-pointer y) (b-is lists node refl) (noted-type lists (omega (arith, less, p′)) refl .0 ∙ ap (node-type t) p′)
-
-pub drops-no : {b x : ℕ} (f : Bool) → (b ≡ 0 → ⊥) → b ≡ x → false ≡ not (is-pointer x) && f
-unfolding is-pointer
-drops-no {b} f some e = rw (← e, le-leb 1 b (omega (arith, some)))
-
-pub drops-yes : {b x z : ℕ} (y : ℕ) → b ≡ 0 → b ≡ x → y ≡ z → not (eqb y 0) ≡ not (is-pointer x) && is-pointer z
-unfolding is-pointer
-drops-yes y none e same = rw (← e, none, ← same) (go y)
-  where
-    go : (y : ℕ) → not (eqb y 0) ≡ is-pointer y
-    go zero = refl
-    go (suc y) = rw (ne-eqb (suc y) 0 (λ z. omega arith), le-leb 1 (suc y) (omega arith))
 
 no-pointer : {y : ℕ} → is-pointer y ≡ false → y ≡ 0
 unfolding is-pointer

@@ -90,48 +90,46 @@ no-tree : (t : Words) (n x : ℕ) → n ≤ x → getD (trees-below t n) x sense
 unfolding trees-below
 no-tree t n x h = List·getD-eq-default (grow (tree-rule t) n) senseless (omega (arith, length-grow (tree-rule t) n))
 
-pub record Value-child (vars : ℕ) (t : Words) (n x : ℕ) : Type 0 where
+-- A child of node n: a node before it, whose tree, read as a value or as a place, makes sense.
+pub record Child {A : Type 0} (reads : Tree → A) (of : Words → ℕ → A) (Ok : A → Type 0) (t : Words) (n x : ℕ) : Type 0 where
   pub less : x < n
-  pub tree : Value-ok vars (value-of t x)
-  pub same : as-value (getD (trees-below t n) x senseless) ≡ value-of t x
+  pub tree : Ok (of t x)
+  pub same : reads (getD (trees-below t n) x senseless) ≡ of t x
 
-pub record Place-child (vars : ℕ) (t : Words) (n x : ℕ) : Type 0 where
-  pub less : x < n
-  pub tree : Place-ok vars (place-of t x)
-  pub same : as-place (getD (trees-below t n) x senseless) ≡ place-of t x
+module _ {A : Type 0} (reads : Tree → A) (of : Words → ℕ → A) (Ok : A → Type 0) (read-so : (t : Words) (x : ℕ) → reads (tree-of t x) ≡ of t x) (none : Ok (reads senseless) → ⊥) where
+  child : (t : Words) (n x : ℕ) → Ok (reads (getD (trees-below t n) x senseless)) → Child reads of Ok t n x
+  child t n x h = go (decLt x n)
+    where
+      go : Dec (x < n) → Child reads of Ok t n x
+      go (yes l) = let e = ap reads (trees-at t n x l) ∙ read-so t x in record { less = l; tree = rw e at h; same = e }
+      go (no l) = absurd (none (rw (no-tree t n x (omega (arith, l))) at h))
 
-value-child : {vars : ℕ} (t : Words) (n x : ℕ) → Value-ok vars (as-value (getD (trees-below t n) x senseless)) → Value-child vars t n x
-unfolding value-of
-value-child {vars} t n x h = go (decLt x n)
-  where
-    go : Dec (x < n) → Value-child vars t n x
-    go (yes l) = record { less = l; tree = rw (trees-at t n x l) at h; same = ap as-value (trees-at t n x l) }
-    go (no l) = none (rw (no-tree t n x (omega (arith, l))) at h)
-      where
-        none : Value-ok vars (as-value senseless) → Value-child vars t n x
-        none bad = elim bad [ ]
+  -- A tree that is F of its child: where it makes sense, so does the child.
+  with-child : {B : Type 0} (Whole : B → Type 0) (F : A → B) (t : Words) (n x : ℕ) {b : B} → b ≡ F (reads (getD (trees-below t n) x senseless))
+      → ((v : A) → Whole (F v) → Ok v) → Whole b → Child reads of Ok t n x × (b ≡ F (of t x))
+  with-child Whole F t n x e inner h = let ch = child t n x (inner _ (rw e at h)) in (ch, e ∙ ap F (ch .same))
 
-place-child : {vars : ℕ} (t : Words) (n x : ℕ) → Place-ok vars (as-place (getD (trees-below t n) x senseless)) → Place-child vars t n x
-unfolding place-of
-place-child {vars} t n x h = go (decLt x n)
-  where
-    go : Dec (x < n) → Place-child vars t n x
-    go (yes l) = record { less = l; tree = rw (trees-at t n x l) at h; same = ap as-place (trees-at t n x l) }
-    go (no l) = none (rw (no-tree t n x (omega (arith, l))) at h)
-      where
-        none : Place-ok vars (as-place senseless) → Place-child vars t n x
-        none bad = elim bad [ ]
+abbrev pub Value-child : ℕ → Words → ℕ → ℕ → Type 0
+Value-child vars = Child as-value value-of (Value-ok vars)
+
+abbrev pub Place-child : ℕ → Words → ℕ → ℕ → Type 0
+Place-child vars = Child as-place place-of (Place-ok vars)
 
 -- ---- nodes by kind: the tree, and the children
 
--- A tree that is F of its child: where it makes sense, so does the child.
-with-value : {vars : ℕ} {B : Type 0} (Ok : B → Type 0) (F : Value → B) (t : Words) (n x : ℕ) {b : B} → b ≡ F (as-value (getD (trees-below t n) x senseless))
-    → ((v : Value) → Ok (F v) → Value-ok vars v) → Ok b → Value-child vars t n x × (b ≡ F (value-of t x))
-with-value Ok F t n x e inner h = let ch = value-child t n x (inner _ (rw e at h)) in (ch, e ∙ ap F (ch .same))
+no-value : {vars : ℕ} → Value-ok vars (as-value senseless) → ⊥
+no-value h = elim h [ ]
 
-with-place : {vars : ℕ} {B : Type 0} (Ok : B → Type 0) (F : Place → B) (t : Words) (n x : ℕ) {b : B} → b ≡ F (as-place (getD (trees-below t n) x senseless))
-    → ((p : Place) → Ok (F p) → Place-ok vars p) → Ok b → Place-child vars t n x × (b ≡ F (place-of t x))
-with-place Ok F t n x e inner h = let ch = place-child t n x (inner _ (rw e at h)) in (ch, e ∙ ap F (ch .same))
+no-place : {vars : ℕ} → Place-ok vars (as-place senseless) → ⊥
+no-place h = elim h [ ]
+
+value-read : (t : Words) (x : ℕ) → as-value (tree-of t x) ≡ value-of t x
+unfolding value-of
+value-read t x = refl
+
+place-read : (t : Words) (x : ℕ) → as-place (tree-of t x) ≡ place-of t x
+unfolding place-of
+place-read t x = refl
 
 pub constant-node : (t : Words) (n : ℕ) → node-kind t n ≡ constant → value-of t n ≡ Number n (node-a t n)
 unfolding value-of tree-of tree-rule
@@ -164,7 +162,7 @@ module _ {vars : ℕ} (t : Words) (n : ℕ) where
 
   pub deref-node : node-kind t n ≡ deref → Place-ok vars (place-of t n) → Value-child vars t n (node-a t n) × (place-of t n ≡ Deref n (value-of t (node-a t n)))
   unfolding place-of tree-of tree-rule
-  deref-node k h = with-value (Place-ok vars) (Deref n) t n (node-a t n) (rw k) inner h
+  deref-node k h = with-child as-value value-of (Value-ok vars) value-read no-value (Place-ok vars) (Deref n) t n (node-a t n) (rw k) inner h
     where
       inner : (v : Value) → Place-ok vars (Deref n v) → Value-ok vars v
       inner v (deref-ok ok) = ok
@@ -172,7 +170,7 @@ module _ {vars : ℕ} (t : Words) (n : ℕ) where
   pub field-node : node-kind t n ≡ field → Place-ok vars (place-of t n)
       → Value-child vars t n (node-a t n) × (place-of t n ≡ Field n (offset-of t n) (count-of t n) (value-of t (node-a t n)))
   unfolding place-of tree-of tree-rule
-  field-node k h = with-value (Place-ok vars) (Field n (offset-of t n) (count-of t n)) t n (node-a t n) (rw k) inner h
+  field-node k h = with-child as-value value-of (Value-ok vars) value-read no-value (Place-ok vars) (Field n (offset-of t n) (count-of t n)) t n (node-a t n) (rw k) inner h
     where
       inner : (v : Value) → Place-ok vars (Field n (offset-of t n) (count-of t n) v) → Value-ok vars v
       inner v (field-ok some ok) = ok
@@ -183,8 +181,8 @@ module _ {vars : ℕ} (t : Words) (n : ℕ) where
   unfolding value-of tree-of tree-rule
   sum-node k h =
       let e : value-of t n ≡ Sum n (moves-by t n) (as-value (getD (trees-below t n) (node-a t n) senseless)) (as-value (getD (trees-below t n) (node-b t n) senseless)) = rw k in
-      let l = value-child t n (node-a t n) (left (rw e at h)) in
-      let r = value-child t n (node-b t n) (right (rw e at h)) in
+      let l = child as-value value-of (Value-ok vars) value-read no-value t n (node-a t n) (left (rw e at h)) in
+      let r = child as-value value-of (Value-ok vars) value-read no-value t n (node-b t n) (right (rw e at h)) in
       (l, r, e ∙ ap₂ (Sum n (moves-by t n)) (l .same) (r .same))
     where
       left : {step : ℕ} {v w : Value} → Value-ok vars (Sum n step v w) → Value-ok vars v
@@ -196,14 +194,14 @@ module _ {vars : ℕ} (t : Words) (n : ℕ) where
   pub read-node : node-kind t n ≡ read → Value-ok vars (value-of t n)
       → Place-child vars t n (node-a t n) × (value-of t n ≡ Read n (is-pointer (node-type t n)) (place-of t (node-a t n)))
   unfolding value-of tree-of tree-rule
-  read-node k h = with-place (Value-ok vars) (Read n (is-pointer (node-type t n))) t n (node-a t n) (rw k) inner h
+  read-node k h = with-child as-place place-of (Place-ok vars) place-read no-place (Value-ok vars) (Read n (is-pointer (node-type t n))) t n (node-a t n) (rw k) inner h
     where
       inner : (p : Place) → Value-ok vars (Read n (is-pointer (node-type t n)) p) → Place-ok vars p
       inner p (read-ok ok) = ok
 
   pub address-node : node-kind t n ≡ address → Value-ok vars (value-of t n) → Place-child vars t n (node-a t n) × (value-of t n ≡ Address n (place-of t (node-a t n)))
   unfolding value-of tree-of tree-rule
-  address-node k h = with-place (Value-ok vars) (Address n) t n (node-a t n) (rw k) inner h
+  address-node k h = with-child as-place place-of (Place-ok vars) place-read no-place (Value-ok vars) (Address n) t n (node-a t n) (rw k) inner h
     where
       inner : (p : Place) → Value-ok vars (Address n p) → Place-ok vars p
       inner p (address-ok ok) = ok
@@ -211,14 +209,14 @@ module _ {vars : ℕ} (t : Words) (n : ℕ) where
   pub cast-node : node-kind t n ≡ cast → Value-ok vars (value-of t n)
       → Value-child vars t n (node-a t n) × (value-of t n ≡ Cast n (cast-keeps t n) (value-of t (node-a t n)))
   unfolding value-of tree-of tree-rule
-  cast-node k h = with-value (Value-ok vars) (Cast n (cast-keeps t n)) t n (node-a t n) (rw k) inner h
+  cast-node k h = with-child as-value value-of (Value-ok vars) value-read no-value (Value-ok vars) (Cast n (cast-keeps t n)) t n (node-a t n) (rw k) inner h
     where
       inner : (v : Value) → Value-ok vars (Cast n (cast-keeps t n) v) → Value-ok vars v
       inner v (cast-ok ok) = ok
 
   pub malloc-node : node-kind t n ≡ malloc → Value-ok vars (value-of t n) → Value-child vars t n (node-a t n) × (value-of t n ≡ Malloc n (value-of t (node-a t n)))
   unfolding value-of tree-of tree-rule
-  malloc-node k h = with-value (Value-ok vars) (Malloc n) t n (node-a t n) (rw k) inner h
+  malloc-node k h = with-child as-value value-of (Value-ok vars) value-read no-value (Value-ok vars) (Malloc n) t n (node-a t n) (rw k) inner h
     where
       inner : (v : Value) → Value-ok vars (Malloc n v) → Value-ok vars v
       inner v (malloc-ok ok) = ok

@@ -1,17 +1,16 @@
 -- What evaluation requires, and what it answers for a node.
-use Prim.Native.Nat.{ℕ, _%_, _<_, _≤_}
-use mathlib.Core.Bool.{Bool, not, _&&_}
+use Prim.Native.Nat.{ℕ, _<_, _≤_}
 use mathlib.Core.Path.{_≡_}
 use mathlib.Core.List.{List}
 use lib.ListN.{length}
 use Rattle.words.specs.Columns.{column}
 use Rattle.semantics.specs.Words.{Words, word}
-use Rattle.semantics.specs.Table.{nodes, count, is-pointer, variable, read, value, sort-of, node-kind, node-a}
+use Rattle.semantics.specs.Table.{nodes, count, variable, read, value, sort-of, node-kind, node-a}
 use Rattle.semantics.specs.Syntax.{place-of, value-of}
 use Rattle.semantics.specs.Rules.{Event, State, Outcome, place-at, value-at}
 use Rattle.semantics.proofs.Invariant.{Inv}
 use Rattle.semantics.proofs.Steps.{Place-ok, Value-ok}
-use Rattle.lookups.specs.Lists.{part, Lists}
+use Rattle.lookups.specs.Lists.{Lists}
 use Rattle.steps.specs.Answers.{slots, unused-slot, state-of, Datum-is, Location-is, Place-is, Answers}
 
 -- A state of a begun run, with the log that the rules have there.
@@ -64,7 +63,3 @@ Assigned-answered l m n s r m′ s′ = Node-answered Place-is (Place-tree n) (�
 -- Node n, if it is a value, reads a variable, in each table with these lists.
 pub record Reads-variable (l : List Words) (n : ℕ) : Type 0 where
   pub each : (t : Words) → Lists t l → n < count t nodes → sort-of (node-kind t n) ≡ value → (node-kind t n ≡ read) × (node-kind t (node-a t n) ≡ variable)
-
--- Node n has the type int in its second word, and its child, as noted, is a pointer.
-abbrev pub to-int-from-pointer : List Words → ℕ → Bool
-to-int-from-pointer l n = not (is-pointer (part l n 2)) && is-pointer (word (column l 1) (part l n 1) % 128)

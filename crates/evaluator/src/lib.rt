@@ -12,7 +12,7 @@ ghost use Rattle.semantics.specs.Table.{known-target, size-of};
 ghost use Rattle.semantics.specs.Rules.{unbounded};
 ghost use Rattle.steps.specs.Answers.{slots, Datum-is, Given};
 ghost use Rattle.lookups.specs.Lists.{part, Known-word, Known-ready};
-ghost use Rattle.evaluator.specs.Result.{Place-ready, Value-ready, Place-answered, Value-answered, Assigned-answered, Reads-variable, to-int-from-pointer};
+ghost use Rattle.evaluator.specs.Result.{Place-ready, Value-ready, Place-answered, Value-answered, Assigned-answered, Reads-variable};
 use layout::kind;
 use lookups::A;
 use lookups::B;
@@ -20,6 +20,7 @@ use lookups::KIND;
 use lookups::Lists;
 use lookups::child;
 use lookups::count;
+use lookups::drops;
 use lookups::is_constant;
 use lookups::item;
 use lookups::noted;
@@ -64,17 +65,6 @@ fn read_variable(l: &Lists, m: &mut Memory, n: usize, s: &mut Slots) -> u64
 {
     let c = child(l, n, A);
     fetch(m, index(item(l, c, A)) + 1, type_of(l, c), s)
-}
-
-// Whether node n, a cast, goes from pointer to int: else bounds stay as they are, since an int has none.
-fn drops(l: &Lists, n: usize) -> bool
-    requires { ⌜ (n < 512) × (n * 3 + 2 < length (column (map (λ x. now x) (now l)) 0)) × (part (map (λ x. now x) (now l)) n 1 < 512) × (part (map (λ x. now x) (now l)) n 1 < length (column (map (λ x. now x) (now l)) 1)) ⌝ }
-    ensures { λ r. ⌜ r ≡ to-int-from-pointer (map (λ x. now x) (now (l .entry))) n ⌝ }
-{
-    if item(l, n, B) != 0 {
-        return false;
-    }
-    type_of(l, child(l, n, A)) != 0
 }
 
 // The place that node n is, with its bounds.

@@ -1,16 +1,16 @@
 -- Laws of what the evaluator looks up in a table's lists: nodes, targets, fields, sizes and offsets.
-use Prim.Native.Nat.{ℕ, _+_, _*_, _-_, _/_, _%_, _≤_, _<_}
-use mathlib.Core.Bool.{Bool, true}
+use Prim.Native.Nat.{ℕ, zero, suc, _+_, _*_, _-_, _/_, _%_, _≤_, _<_}
+use mathlib.Core.Bool.{Bool, true, false, not, _&&_}
 use mathlib.Core.Path.{_≡_, refl, sym, ap, _∙_}
 use mathlib.Core.Logic.{⊎-elim}
 use mathlib.Core.List.{List}
 use native.Mathlib.Omega.{arith}
 use native.Mathlib.Decide.{decLt}
-use borrow.Author.Tests.{lt-leb, le-leb, lt-ltb, ltb-true, leb-true, eqb-true}
+use borrow.Author.Tests.{lt-leb, le-leb, lt-ltb, ltb-true, leb-true, eqb-true, ne-eqb}
 use lib.Dec.{leb, ltb, eqb}
 use lib.ListN.{length}
 use Rattle.semantics.specs.Words.{Words, word, if_then_else_}
-use Rattle.semantics.specs.Table.{records, fields, pointers, nodes, count, item, known-type, known-target, target, points-to-record, pointed-record, field-total, first-field, field-offset, field-count, size-of, variable, field, constant, read, place, value, sort-of, node-kind, node-a, node-b, node-type}
+use Rattle.semantics.specs.Table.{records, fields, pointers, nodes, count, item, is-pointer, known-type, known-target, target, points-to-record, pointed-record, field-total, first-field, field-offset, field-count, size-of, variable, field, constant, read, place, value, sort-of, node-kind, node-a, node-b, node-type}
 use Rattle.semantics.specs.Syntax.{step-of}
 use Rattle.semantics.specs.Check.{is-child}
 use Rattle.semantics.proofs.Passed.{Types-passed, section-ok, require-passes, target-known, record-known, field-in}
@@ -247,3 +247,17 @@ step-size t y h = rw (le-leb 2 y h) (go (decLt (target t y) 65536))
     go : Dec (target t y < 65536) → size-of t (target t y) ≡ (if leb 65536 (target t y) then size-of t (target t y) else 1)
     go (yes less) = rw (lt-leb 65536 (target t y) less) (sym (size-type t (target t y) less))
     go (no more) = rw (le-leb 65536 (target t y) (omega (arith, more)))
+
+-- ---- casts
+
+pub drops-no : {b x : ℕ} (f : Bool) → (b ≡ 0 → ⊥) → b ≡ x → false ≡ not (is-pointer x) && f
+unfolding is-pointer
+drops-no {b} f some e = rw (← e, le-leb 1 b (omega (arith, some)))
+
+pub drops-yes : {b x z : ℕ} (y : ℕ) → b ≡ 0 → b ≡ x → y ≡ z → not (eqb y 0) ≡ not (is-pointer x) && is-pointer z
+unfolding is-pointer
+drops-yes y none e same = rw (← e, none, ← same) (go y)
+  where
+    go : (y : ℕ) → not (eqb y 0) ≡ is-pointer y
+    go zero = refl
+    go (suc y) = rw (ne-eqb (suc y) 0 (λ z. omega arith), le-leb 1 (suc y) (omega arith))

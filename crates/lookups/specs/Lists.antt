@@ -1,11 +1,11 @@
 -- The seven lists in which the evaluator reads a table that has passed the check.
-use Prim.Native.Nat.{ℕ, _+_, _*_, _≤_, _<_}
-use mathlib.Core.Bool.{Bool, true}
+use Prim.Native.Nat.{ℕ, _+_, _*_, _%_, _≤_, _<_}
+use mathlib.Core.Bool.{Bool, true, not, _&&_}
 use mathlib.Core.Path.{_≡_}
 use mathlib.Core.List.{List}
 use lib.ListN.{length}
 use Rattle.semantics.specs.Words.{Words, word}
-use Rattle.semantics.specs.Table.{records, fields, pointers, nodes, count, item, record-target, field-total, first-field, field-offset, size-of, field, node-kind}
+use Rattle.semantics.specs.Table.{records, fields, pointers, nodes, count, item, is-pointer, record-target, field-total, first-field, field-offset, size-of, field, node-kind}
 use Rattle.semantics.proofs.Passed.{Passed}
 use Rattle.words.specs.Columns.{column}
 use Rattle.layout.specs.Types.{Tabulated}
@@ -14,6 +14,10 @@ use Rattle.layout.specs.Notes.{note}
 -- Word j of node n.
 abbrev pub part : List Words → ℕ → ℕ → ℕ
 part l n j = word (column l 0) (n * 3 + j)
+
+-- Node n has the type int in its second word, and its child, as noted, is a pointer.
+abbrev pub to-int-from-pointer : List Words → ℕ → Bool
+to-int-from-pointer l n = not (is-pointer (part l n 2)) && is-pointer (word (column l 1) (part l n 1) % 128)
 
 -- l are the lists of the table t: its nodes, their notes, the targets of its pointers, its fields, the first field of each
 -- record, the size of each record, and the offset of each field.

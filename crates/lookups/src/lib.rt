@@ -8,7 +8,7 @@ ghost use Rattle.semantics.specs.Words.{Words, word};
 ghost use Rattle.semantics.specs.Table.{known-type, known-target, target, pointed-record, first-field, field-offset, field-count, size-of, node-a, node-b, node-type};
 ghost use Rattle.semantics.specs.Syntax.{step-of};
 ghost use Rattle.words.specs.Columns.{column};
-ghost use Rattle.lookups.specs.Lists.{part, Field-node, Field-ready, Known-word, Known-ready};
+ghost use Rattle.lookups.specs.Lists.{part, to-int-from-pointer, Field-node, Field-ready, Known-word, Known-ready};
 use layout::Table;
 use layout::note;
 use words::index;
@@ -97,6 +97,17 @@ pub fn type_of(l: &Lists, n: usize) -> u32
     ensures { λ r. ⌜ r ≡ word (column (map (λ x. now x) (now (l .entry))) 1) n % 128 ⌝ }
 {
     type_in(noted(l, n))
+}
+
+// Whether node n, a cast, goes from pointer to int: else bounds stay as they are, since an int has none.
+pub fn drops(l: &Lists, n: usize) -> bool
+    requires { ⌜ (n < 512) × (n * 3 + 2 < length (column (map (λ x. now x) (now l)) 0)) × (part (map (λ x. now x) (now l)) n 1 < 512) × (part (map (λ x. now x) (now l)) n 1 < length (column (map (λ x. now x) (now l)) 1)) ⌝ }
+    ensures { λ r. ⌜ r ≡ to-int-from-pointer (map (λ x. now x) (now (l .entry))) n ⌝ }
+{
+    if item(l, n, B) != 0 {
+        return false;
+    }
+    type_of(l, child(l, n, A)) != 0
 }
 
 // What this pointer type, an entry, points to.

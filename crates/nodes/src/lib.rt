@@ -352,6 +352,8 @@ pub fn check_node(
     let kind = t[place];
     let a = t[place + 1];
     let b = t[place + 2];
+    // Places are the kinds 1..=3, values 4..=10. Within a range all kinds are listed, so that the compiler tests the range only once; one left
+    // over would be refused anyway.
     match kind {
         kind::VARIABLE..=kind::FIELD => match kind {
             kind::VARIABLE => {
@@ -362,12 +364,12 @@ pub fn check_node(
                 let x = deref(t, notes, pointers.at, n, place, a, b);
                 with_child(x, notes, uses, n, note::PLACE, a)
             }
-            _ => {
+            kind::FIELD => {
                 let x = field(t, notes, first, fields, pointers.at, n, place, a, b);
                 with_child(x, notes, uses, n, note::PLACE, a)
             }
+            _ => Verdict::Refused(7, place),
         },
-        // All seven are listed, so the compiler tests the range only once. A kind left over would be refused anyway.
         kind::CONSTANT..=kind::MALLOC => match kind {
             kind::CONSTANT => enter(constant(place, a, b), notes, n, note::CONSTANT),
             kind::SUM => {

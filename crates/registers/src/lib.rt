@@ -10,6 +10,7 @@ ghost use Rattle.semantics.proofs.Registers.{Whole};
 ghost use Rattle.layout.specs.Layout.{verdict-of, Stands};
 ghost use Rattle.registers.specs.Blocks.{Register-set, Registers-set, Fits, All-fit};
 use layout::Section;
+use layout::Table;
 use layout::Verdict;
 use words::index;
 use words::store_all;
@@ -74,7 +75,7 @@ fn check_names(t: &[u32], variables: Section, list: &[u32]) -> Verdict
 {
     let count = list[0];
     // 1 for each variable that an earlier register names.
-    let mut named = [0u8; 64];
+    let mut named = [0u8; Table::VARIABLES];
     let mut p = 1;
     for i in 0..count {
         let v = list[p];

@@ -14,7 +14,7 @@ use Rattle.evaluator.proofs.+place+value.Lts-place as place-lts
 use Rattle.evaluator.proofs.value.Reads as value
 use Rattle.evaluator.proofs.value.Kinds as value-kinds
 use Rattle.evaluator.proofs.+place+value.Lts-value as value-lts
-use Rattle.evaluator.proofs.drops.Reads as drops-reads
+use Rattle.lookups.proofs.drops.Reads as drops-reads
 use Rattle.evaluator.proofs.read_variable.Reads as read-variable-reads
 use Rattle.evaluator.proofs.size.Reads as size-reads
 use Rattle.lookups.proofs.child.Reads as child-reads

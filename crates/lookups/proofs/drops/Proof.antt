@@ -1,4 +1,4 @@
--- `evaluator::drops` meets its contract. Assumes nothing.
+-- `lookups::drops` meets its contract. Assumes nothing.
 use borrow.Author.Needs.{needs}
 use Prim.Native.Nat.{_%_}
 use mathlib.Core.Path.{ap, _∙_}
@@ -6,9 +6,9 @@ use mathlib.Core.List.{map}
 use Rattle.words.specs.Columns.{column}
 use Rattle.semantics.specs.Words.{word}
 use native.Mathlib.Omega.{arith}
-use Rattle.evaluator.proofs.Evaluation.{drops-no, drops-yes}
-use Rattle.evaluator.proofs.drops.Statement.{statement}
-use Rattle.evaluator.proofs.drops.Tie as tie
+use Rattle.lookups.proofs.Lookups.{drops-no, drops-yes}
+use Rattle.lookups.proofs.drops.Statement.{statement}
+use Rattle.lookups.proofs.drops.Tie as tie
 
 returns : tie.Need-returns
 returns c = drops-no _ (c .if1 .taken) (c .before .item .ensures)
