@@ -28,9 +28,9 @@ pub unknown-high : (k : ℕ) → 11 ≤ k → kind-of k ≡ unknown
 unfolding kind-of
 unknown-high k h = List·getD-eq-default kinds unknown h
 
--- The last kind of places, and that of values.
-pub last-place : (k : ℕ) → 1 ≤ k → k < 4 → (k ≡ 1 → ⊥) → (k ≡ 2 → ⊥) → k ≡ 3
-last-place k h l h₁ h₂ = omega arith
+-- What is left of each range.
+pub none-before : (k : ℕ) → k < 4 → (k ≡ 1 → ⊥) → (k ≡ 2 → ⊥) → (k ≡ 3 → ⊥) → k < 1
+none-before k l h₁ h₂ h₃ = omega arith
 
 pub last-value : (k : ℕ) → 4 ≤ k → k < 11 → (k ≡ 4 → ⊥) → (k ≡ 5 → ⊥) → (k ≡ 6 → ⊥) → (k ≡ 7 → ⊥) → (k ≡ 8 → ⊥) → (k ≡ 9 → ⊥) → k ≡ 10
 last-value k h l h₄ h₅ h₆ h₇ h₈ h₉ = omega arith

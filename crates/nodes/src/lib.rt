@@ -352,10 +352,10 @@ pub fn check_node(
     let kind = t[place];
     let a = t[place + 1];
     let b = t[place + 2];
-    // Places are the kinds 1..=3, values 4..=10. Within a range all kinds are listed, so that the compiler tests the range only once; one left
-    // over would be refused anyway.
+    // Places are the kinds 1..=3, values 4..=10. Within a range all kinds are listed, so that the compiler tests the range only once. 0 is refused
+    // beside the places: apart, it would be a test more for every node.
     match kind {
-        kind::VARIABLE..=kind::FIELD => match kind {
+        0 | kind::VARIABLE..=kind::FIELD => match kind {
             kind::VARIABLE => {
                 let x = variable(t, variables, place, a, b);
                 enter(x, notes, n, note::PLACE + note::VARIABLE)
