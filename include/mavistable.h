@@ -1,5 +1,6 @@
 /* Mavistable for C and C++: checks and runs routines given as tables of 32-bit words, with the bounds of every pointer tracked.
-   Link with libcapi.a. Both calls work on any words, allocate nothing, keep no state and may run on several threads. */
+   mavistable_check and mavistable_run are in libcapi.a, mavistable_explain is in libcapi_explain.a; either links without the other.
+   All calls work on any words, allocate nothing, keep no state and may run on several threads. */
 #ifndef MAVISTABLE_H
 #define MAVISTABLE_H
 
@@ -33,6 +34,28 @@ struct mavistable_answer {
     uint32_t unused;  /* done, abort, no room: the first word of the lists that was never handed out */
 };
 
+/* How an explained call ended, and why it aborted if it did. What an ending does not tell is 0; reason 0: the run did not abort. */
+struct mavistable_explanation {
+    uint32_t ending;  /* ending, number, place, command and unused as in struct mavistable_answer */
+    uint32_t number;
+    size_t place;
+    uint32_t command;
+    uint32_t unused;
+    uint32_t node;    /* abort: the node, a follow or a field, whose bounds check was the first that was not passed */
+    uint32_t words;   /* abort: how many words it wanted */
+    uint64_t wanted;  /* abort: the first of them; the exact sum, which can exceed 32 bits */
+    uint32_t base;    /* abort: the bounds [base, end) of the pointer followed, both 0 if it had none */
+    uint32_t end;
+    uint32_t reason;  /* abort: one of enum mavistable_reason, the lowest that applies */
+    uint32_t first;   /* abort: the first word of the variable, register or block in which the bounds lie; 0 without bounds */
+};
+
+enum mavistable_reason {
+    MAVISTABLE_NO_BOUNDS = 1,   /* base and end are 0 */
+    MAVISTABLE_BEFORE_BASE = 2, /* wanted < base */
+    MAVISTABLE_PAST_END = 3     /* end < wanted + words */
+};
+
 /* Checks a table of `length` words.
    The caller owes: `table` points to `length` readable words (for length 0 it is any pointer but NULL). */
 struct mavistable_verdict mavistable_check(const uint32_t *table, size_t length);
@@ -50,6 +73,13 @@ struct mavistable_verdict mavistable_check(const uint32_t *table, size_t length)
 struct mavistable_answer mavistable_run(const uint32_t *table, size_t table_length, const uint32_t *inputs, size_t input_count,
                                         const uint32_t *registers, size_t registers_length, uint32_t *values, size_t values_length,
                                         uint32_t *bases, size_t bases_length, uint32_t *ends, size_t ends_length);
+
+/* Does what mavistable_run does, with the same lists left and the same answer, and tells why the run aborted if it did. An abort whose bounds
+   lie in a block that the routine obtained costs a second run, to find where that block starts. The caller owes the same. */
+struct mavistable_explanation mavistable_explain(const uint32_t *table, size_t table_length, const uint32_t *inputs, size_t input_count,
+                                                 const uint32_t *registers, size_t registers_length, uint32_t *values,
+                                                 size_t values_length, uint32_t *bases, size_t bases_length, uint32_t *ends,
+                                                 size_t ends_length);
 
 #ifdef __cplusplus
 }

@@ -1,8 +1,9 @@
-// Makes both calls for C on recorded cases, and prints every number of their structs and every word of the three lists. A case is
-// `CALL LIGHT LV LB LE LK NI i.. NR r.. NT t..`, as `replay` has it; CALL, LIGHT and LK are not looked at, and the lists have at most 64
-// words, all 7 before the run. What is no case is answered by `case`.
+// Makes the three calls for C on recorded cases, and prints every number of their structs and every word of the three lists, after the run and after
+// the call that explains. A case is `CALL LIGHT LV LB LE LK NI i.. NR r.. NT t..`, as `replay` has it; CALL, LIGHT and LK are not looked at, and
+// the lists have at most 64 words, all 7 before each call. What is no case is answered by `case`.
 use capi::MavistableAnswer;
 use capi::MavistableVerdict;
+use capi_explain::MavistableExplanation;
 use libc::STDIN_FILENO;
 use libc::STDOUT_FILENO;
 use stream::least;
@@ -33,6 +34,30 @@ fn put_answer(out: &mut [u8], at: usize, a: MavistableAnswer) -> usize {
     text::put_bytes(out, at, b"\n")
 }
 
+fn put_ending(out: &mut [u8], at: usize, x: MavistableExplanation) -> usize {
+    let at = put_after(out, at, b"explain ", long(x.ending));
+    let at = put_after(out, at, b" ", long(x.number));
+    let at = put_after(out, at, b" ", x.place as u64);
+    let at = put_after(out, at, b" ", long(x.command));
+    put_after(out, at, b" ", long(x.unused))
+}
+
+fn put_check(out: &mut [u8], at: usize, x: MavistableExplanation) -> usize {
+    let at = put_after(out, at, b" ", long(x.node));
+    let at = put_after(out, at, b" ", long(x.words));
+    let at = put_after(out, at, b" ", x.wanted);
+    let at = put_after(out, at, b" ", long(x.base));
+    put_after(out, at, b" ", long(x.end))
+}
+
+fn put_explanation(out: &mut [u8], at: usize, x: MavistableExplanation) -> usize {
+    let at = put_ending(out, at, x);
+    let at = put_check(out, at, x);
+    let at = put_after(out, at, b" ", long(x.reason));
+    let at = put_after(out, at, b" ", long(x.first));
+    text::put_bytes(out, at, b"\n")
+}
+
 fn put_list(out: &mut [u8], at: usize, name: &[u8], list: &[u32]) -> usize {
     let mut at = text::put_bytes(out, at, name);
     for i in 0..list.len() {
@@ -41,7 +66,13 @@ fn put_list(out: &mut [u8], at: usize, name: &[u8], list: &[u32]) -> usize {
     text::put_bytes(out, at, b"\n")
 }
 
-fn make_calls(
+fn put_lists(out: &mut [u8], at: usize, values: &[u32], bases: &[u32], ends: &[u32]) -> usize {
+    let at = put_list(out, at, b"values", values);
+    let at = put_list(out, at, b"bases", bases);
+    put_list(out, at, b"ends", ends)
+}
+
+fn check_and_run(
     t: &[u32],
     inputs: &[u32],
     registers: &[u32],
@@ -54,14 +85,27 @@ fn make_calls(
     let a = capi::mavistable_run(t, inputs, registers, values, bases, ends);
     let at = put_verdict(&mut out, 0, v);
     let at = put_answer(&mut out, at, a);
-    let at = put_list(&mut out, at, b"values", values);
-    let at = put_list(&mut out, at, b"bases", bases);
-    let at = put_list(&mut out, at, b"ends", ends);
+    let at = put_lists(&mut out, at, values, bases, ends);
+    stream::flush(&out, at);
+}
+
+fn explain(
+    t: &[u32],
+    inputs: &[u32],
+    registers: &[u32],
+    values: &mut [u32],
+    bases: &mut [u32],
+    ends: &mut [u32],
+) {
+    let mut out = io::large_buffer();
+    let x = capi_explain::mavistable_explain(t, inputs, registers, values, bases, ends);
+    let at = put_explanation(&mut out, 0, x);
+    let at = put_lists(&mut out, at, values, bases, ends);
     stream::flush(&out, at);
 }
 
 // A case whose registers start at `list` and whose table stands from `from` to `to`.
-fn lend(numbers: &[u32], list: usize, from: usize, to: usize)
+fn lend(explains: bool, numbers: &[u32], list: usize, from: usize, to: usize)
     requires { ⌜ (8 ≤ list) × (list < from) × (from ≤ to) × (to ≤ length (now numbers)) ⌝ }
 {
     let v = index(numbers[2]);
@@ -75,14 +119,17 @@ fn lend(numbers: &[u32], list: usize, from: usize, to: usize)
     let mut ends = [7u32; 64];
     let inputs_end = list - 1;
     let list_end = from - 1;
-    make_calls(
-        &numbers[from..to],
-        &numbers[7..inputs_end],
-        &numbers[list..list_end],
-        &mut values[0..v],
-        &mut bases[0..b],
-        &mut ends[0..e],
-    );
+    let t = &numbers[from..to];
+    let inputs = &numbers[7..inputs_end];
+    let registers = &numbers[list..list_end];
+    let v = &mut values[0..v];
+    let b = &mut bases[0..b];
+    let e = &mut ends[0..e];
+    if explains {
+        explain(t, inputs, registers, v, b, e);
+    } else {
+        check_and_run(t, inputs, registers, v, b, e);
+    }
 }
 
 // Answers the case that the numbers start with, and tells how many of them it has: all that are left where they are no case.
@@ -98,7 +145,8 @@ fn answer_case(numbers: &[u32]) -> usize
             if from <= n {
                 let to = from + index(numbers[from - 1]);
                 if to <= n {
-                    lend(numbers, list, from, to);
+                    lend(false, numbers, list, from, to);
+                    lend(true, numbers, list, from, to);
                     return to;
                 }
             }

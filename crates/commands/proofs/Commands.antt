@@ -6,17 +6,20 @@ use mathlib.Core.List.{List, _∷_, map}
 use denote.Ref.{RefT}
 use native.Mathlib.Omega.{arith}
 use borrow.Author.Tests.{lt-ltb, le-leb}
-use lib.ListN.{length, set}
+use lib.ListN.{length, set, length-set}
 use Rattle.words.specs.Columns.{column}
 use Rattle.words.proofs.Columns.{put, put-same, put-other}
 use Rattle.semantics.specs.Words.{Words, word, if_then_else_}
 use Rattle.semantics.specs.Table.{is-pointer}
 use Rattle.semantics.specs.Syntax.{place-of, value-of}
-use Rattle.semantics.specs.Rules.{Datum, Location, Event, stored, State, noted, touchable, place-at, value-at, with-datum, assign-step, assign}
-use Rattle.semantics.proofs.Invariant.{Inv, Datum-ok, Location-ok, location-later}
+use Rattle.semantics.specs.Rules.{Datum, Access, Location, Event, stored, State, noted, touchable, place-at, value-at, with-datum, assign-step, assign}
+use Rattle.semantics.specs.Explain.{block-start}
+use Rattle.semantics.proofs.Blocks.{stored-no-block}
+use Rattle.semantics.proofs.Invariant.{Datum-ok, Location-ok, location-later}
 use Rattle.semantics.proofs.Steps.{place-good, value-good}
-use Rattle.steps.specs.Answers.{base-slot, end-slot, unused-slot, failed, state-of, Datum-is, Place-is, Answers, answers-ok}
-use Rattle.steps.proofs.Finish.{passed-on, touched}
+use Rattle.semantics.proofs.Starts.{start-beside}
+use Rattle.steps.specs.Answers.{base-slot, end-slot, unused-slot, failed, state-of, Datum-is, Place-is, Stands, Answers, answers-ok}
+use Rattle.steps.proofs.Finish.{passed-on, touched, watches-on, all-kept}
 use Rattle.lookups.proofs.Lookups.{noted-type}
 use Rattle.evaluator.specs.Result.{Place-ready, Value-ready, Value-answered, Assigned-answered}
 use Rattle.evaluator.proofs.Outcomes.{Worked-out, worked-out}
@@ -60,21 +63,21 @@ module _ {l m m₁ : List Words} {p v at : ℕ} {s s₁ : Words} (place : Assign
   place-ended over =
       record {
         room = place .room;
-        meets = λ t vars log inv k.
-            passed-on {Ok = Location-ok} _ (place .room) over .meets vars _ _ _ (place .meets t (k .lists-of) (k .place-node) vars log inv (k .place-tree)) (place-good (k .place-tree) _ inv);
+        meets = λ t vars w log st k.
+            passed-on {Ok = Location-ok} _ (place .room) over .meets vars _ w _ _ (place .meets t (k .lists-of) (k .place-node) vars w log st (k .place-tree)) (place-good (k .place-tree) _ (st .inv));
       }
 
   module _ (under : at < failed) where
     pub value-next : Command-ready l m p v s → Value-ready l m₁ v s₁
     value-next h =
         let k = h .nodes-are in
-        let w = worked-out (place .meets (h .table) (k .lists-of) (k .place-node) (h .state .vars) (h .state .log) (h .state .inv) (k .place-tree)) (place-good (k .place-tree) _ (h .state .inv)) under in
+        let w = worked-out (place .meets (h .table) (k .lists-of) (k .place-node) (h .state .vars) (h .state .watched) (h .state .log) (h .state .stands) (k .place-tree)) (place-good (k .place-tree) _ (h .state .stands .inv)) under in
         record {
           table = h .table;
           lists = k .lists-of;
           node = k .value-node;
           room = place .room;
-          state = record { vars = h .state .vars; log = w .log; inv = w .inv; most = omega (arith, w .long, h .state .most) };
+          state = record { vars = h .state .vars; watched = h .state .watched; log = w .log; stands = w .stands; most = omega (arith, w .long, h .state .most) };
           tree = k .value-tree;
         }
 
@@ -84,22 +87,22 @@ module _ {l m m₁ : List Words} {p v at : ℕ} {s s₁ : Words} (place : Assign
       value-ended over =
           record {
             room = value .room;
-            meets = λ t vars log inv k.
-                let w = worked-out (place .meets t (k .lists-of) (k .place-node) vars log inv (k .place-tree)) (place-good (k .place-tree) _ inv) under in
-                rw (w .outcome)
-                (passed-on {Ok = Datum-ok} _ (value .room) over .meets vars _ _ _ (value .meets t (k .lists-of) (k .value-node) vars (w .log) (w .inv) (k .value-tree)) (value-good (k .value-tree) _ (w .inv)));
+            meets = λ t vars w log st k.
+                let at = worked-out (place .meets t (k .lists-of) (k .place-node) vars w log st (k .place-tree)) (place-good (k .place-tree) _ (st .inv)) under in
+                rw (at .outcome)
+                (passed-on {Ok = Datum-ok} _ (value .room) over .meets vars _ w _ _ (value .meets t (k .lists-of) (k .value-node) vars w (at .log) (at .stands) (k .value-tree)) (value-good (k .value-tree) _ (at .stands .inv)));
           }
 
       -- The place and the value were worked out: how the command stands before its store.
-      module _ (small : r < failed) {t : Words} {vars : ℕ} {log : List Event} (inv : Inv vars (length (column m 0)) (state-of m (word s unused-slot) log)) (k : Command-nodes t l p v vars) where
-        first : Worked-out Place-is (Location-ok vars) vars (length (column m 0)) m₁ at s₁ (state-of m (word s unused-slot) log) (place-at (place-of t p) (state-of m (word s unused-slot) log))
-        first = worked-out (place .meets t (k .lists-of) (k .place-node) vars log inv (k .place-tree)) (place-good (k .place-tree) _ inv) under
+      module _ (small : r < failed) {t : Words} {vars w : ℕ} {log : List Event} (st : Stands vars w m s log) (k : Command-nodes t l p v vars) where
+        first : Worked-out Place-is (Location-ok vars) vars (length (column m 0)) w m₁ at s₁ (state-of m (word s unused-slot) log) (place-at (place-of t p) (state-of m (word s unused-slot) log))
+        first = worked-out (place .meets t (k .lists-of) (k .place-node) vars w log st (k .place-tree)) (place-good (k .place-tree) _ (st .inv)) under
 
         abbrev between : State
         between = state-of m₁ (word s₁ unused-slot) (first .log)
 
-        second : Worked-out Datum-is (Datum-ok vars) vars (length (column m₁ 0)) m₂ r s₂ between (value-at (value-of t v) between)
-        second = worked-out (value .meets t (k .lists-of) (k .value-node) vars (first .log) (first .inv) (k .value-tree)) (value-good (k .value-tree) _ (first .inv)) small
+        second : Worked-out Datum-is (Datum-ok vars) vars (length (column m₁ 0)) w m₂ r s₂ between (value-at (value-of t v) between)
+        second = worked-out (value .meets t (k .lists-of) (k .value-node) vars w (first .log) (first .stands) (k .value-tree)) (value-good (k .value-tree) _ (first .stands .inv)) small
 
         still : Location-ok vars (first .result) (state-of m₂ (word s₂ unused-slot) (second .log))
         still = location-later (second .later .more) (first .fine)
@@ -108,7 +111,11 @@ module _ {l m m₁ : List Words} {p v at : ℕ} {s s₁ : Words} (place : Assign
       pub store-inside : Command-ready l m p v s → r < failed → (at < 2 ^ 32) × (at < length (column m₂ 0)) × (at < length (column m₂ 1)) × (at < length (column m₂ 2))
       store-inside h small =
           let k = h .nodes-are in
-          omega (arith, touched (second small (h .state .inv) k .inv) (still small (h .state .inv) k) (first small (h .state .inv) k .is .at))
+          omega (arith, touched (second small (h .state .stands) k .stands .inv) (still small (h .state .stands) k) (first small (h .state .stands) k .is .at))
+
+      -- A store is no block.
+      block-kept : (at : ℕ) (a : Access) (log : List Event) (w : ℕ) → block-start (stored at a ∷ log) w ≡ block-start log w
+      block-kept at a log w = start-beside (stored at a) log w (stored-no-block at a)
 
       pub command-done : {m₃ : List Words} {ty b e : ℕ} → r < failed → ty ≡ word (column l 1) v % 128 → b ≡ word s₂ base-slot → e ≡ word s₂ end-slot → Stored ty at r b e m₂ m₃
           → Command-answered l m p v s 0 m₃ s₂
@@ -116,15 +123,16 @@ module _ {l m m₁ : List Words} {p v at : ℕ} {s s₁ : Words} (place : Assign
       command-done {m₃} {ty} {b} {e} small ht hb he st =
           record {
             room = value .room;
-            meets = λ t vars log inv k.
-                let one = first small inv k in
-                let two = second small inv k in
-                rw (one .outcome, two .outcome) (stores (one .result) (two .result) (two .log) (noted-type (k .lists-of) (k .value-node) ht .0) (one .is .at) (two .is) (two .inv) (still small inv k));
+            meets = λ t vars w log st₀ k.
+                let one = first small st₀ k in
+                let two = second small st₀ k in
+                rw (one .outcome, two .outcome) (stores (one .result) (two .result) (two .log) (noted-type (k .lists-of) (k .value-node) ht .0) (one .is .at) (two .is) (two .stands) (still small st₀ k));
           }
         where
-          stores : {vars len ty′ : ℕ} (x : Location) (d : Datum) (log : List Event) → ty ≡ ty′ → x .at ≡ at → Datum-is d r s₂ → Inv vars len (state-of m₂ (word s₂ unused-slot) log)
-              → Location-ok vars x (state-of m₂ (word s₂ unused-slot) log) → Answers Done-is m₃ 0 s₂ (assign-step (is-pointer ty′) x d (state-of m₂ (word s₂ unused-slot) log))
-          stores x d log same hx hd inv fine =
-              let t = touched inv fine hx in
+          stores : {vars w ty′ : ℕ} (x : Location) (d : Datum) (log : List Event) → ty ≡ ty′ → x .at ≡ at → Datum-is d r s₂ → Stands vars w m₂ s₂ log
+              → Location-ok vars x (state-of m₂ (word s₂ unused-slot) log) → Answers Done-is w m₃ 0 s₂ (assign-step (is-pointer ty′) x d (state-of m₂ (word s₂ unused-slot) log))
+          stores {w = w} x d log same hx hd here fine =
+              let t = touched (here .inv) fine hx in
+              let long : length (column m₃ 0) ≡ length (column m₂ 0) = ap length (st .values) ∙ length-set (column m₂ 0) at r in
               rw (← same, hx, lt-ltb 0 at (t .0), lt-ltb at (word s₂ unused-slot) (t .1), stored-state m₂ m₃ (is-pointer ty) at (word s₂ unused-slot) d (stored at (x .access)) log (hd .value) (hd .base ∙ sym hb) (hd .end ∙ sym he) (st .values) (st .bases) (st .ends))
-              (answers-ok tt _ (record { zero = refl }) (omega arith))
+              (answers-ok tt (stored at (x .access) ∷ log) (record { zero = refl }) (omega arith) (rw long (watches-on (all-kept s₂) (block-kept at (x .access) log w) (here .watches))))

@@ -8,10 +8,9 @@ use Rattle.semantics.specs.Words.{Words, word, if_then_else_}
 use Rattle.semantics.specs.Table.{nodes, count, is-pointer, node-type}
 use Rattle.semantics.specs.Syntax.{place-of, value-of}
 use Rattle.semantics.specs.Rules.{Event, assign}
-use Rattle.semantics.proofs.Invariant.{Inv}
 use Rattle.semantics.proofs.Steps.{Place-ok, Value-ok}
 use Rattle.lookups.specs.Lists.{Lists}
-use Rattle.steps.specs.Answers.{slots, unused-slot, state-of, Answers}
+use Rattle.steps.specs.Answers.{slots, unused-slot, state-of, Stands, Answers}
 use Rattle.evaluator.specs.Result.{Ready}
 
 -- Values, bases and ends.
@@ -30,7 +29,7 @@ pub record Command-nodes (t : Words) (l : List Words) (p v vars : ℕ) : Type 0 
 pub record Command-ready (l m : List Words) (p v : ℕ) (s : Words) : Type 0 where
   pub table : Words
   pub room : length s ≡ slots
-  pub state : Ready m (word s unused-slot)
+  pub state : Ready m s
   pub nodes-are : Command-nodes table l p v (state .vars)
 
 -- The lists after a store at word w: base and end only where the type is a pointer's.
@@ -46,5 +45,5 @@ pub record Done-is (x : Unit {0}) (r : ℕ) (s : Words) : Type 0 where
 -- What a command answers: the lists m′ and the slots s′ are those that the rules leave.
 pub record Command-answered (l m : List Words) (p v : ℕ) (s : Words) (r : ℕ) (m′ : List Words) (s′ : Words) : Type 0 where
   pub room : length s′ ≡ slots
-  pub meets : (t : Words) (vars : ℕ) (log : List Event) → Inv vars (length (column m 0)) (state-of m (word s unused-slot) log) → Command-nodes t l p v vars
-      → Answers Done-is m′ r s′ (assign (is-pointer (node-type t v)) (place-of t p) (value-of t v) (state-of m (word s unused-slot) log))
+  pub meets : (t : Words) (vars w : ℕ) (log : List Event) → Stands vars w m s log → Command-nodes t l p v vars
+      → Answers Done-is w m′ r s′ (assign (is-pointer (node-type t v)) (place-of t p) (value-of t v) (state-of m (word s unused-slot) log))

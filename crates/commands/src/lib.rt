@@ -16,17 +16,19 @@ use steps::BASES;
 use steps::END;
 use steps::ENDS;
 use steps::FAILED;
+use steps::FailedCheck;
 use steps::Memory;
 use steps::Slots;
 use steps::UNUSED;
 use steps::VALUES;
+use steps::failure;
 use words::index;
 use words::low;
 
-// How a run ended: done with U; aborted or out of memory with command number and U.
+// How a run ended: done with U; aborted with command number, U and the check that was not passed; out of memory with command number and U.
 pub enum Ended {
     Done(u32),
-    Abort(u32, u32),
+    Abort(u32, u32, FailedCheck),
     NoRoom(u32, u32),
 }
 
@@ -60,12 +62,21 @@ fn command(l: &Lists, m: &mut Memory, p: usize, v: usize, s: &mut Slots) -> u64
     0
 }
 
-// The commands in order, up to the first that does not end well. Each stands as a place node and a value node.
-pub fn execute(t: &[u32], at: usize, total: u32, l: &Lists, first: u32, m: &mut Memory) -> Ended
-    requires { ⌜ Executable (now t) (map (λ x. now x) (now l)) at total first (map (λ x. now x) (now m)) ⌝ }
-    ensures { λ r. ⌜ (Executed (now (t .entry)) (map (λ x. now x) (now (m .entry))) first r (map (λ x. now x) (now (m .exit)))) × (map (λ x. name x) (now (m .exit)) ≡ map (λ x. name x) (now (m .entry))) ⌝ }
+// The commands in order, up to the first that does not end well. Each stands as a place node and a value node. U is `first`, and the block that
+// will have the word `watched` is looked for.
+pub fn execute(
+    t: &[u32],
+    at: usize,
+    total: u32,
+    l: &Lists,
+    first: u32,
+    watched: u32,
+    m: &mut Memory,
+) -> Ended
+    requires { ⌜ Executable (now t) (map (λ x. now x) (now l)) at total first watched (map (λ x. now x) (now m)) ⌝ }
+    ensures { λ r. ⌜ (Executed (now (t .entry)) (map (λ x. now x) (now (m .entry))) first watched r (map (λ x. now x) (now (m .exit)))) × (map (λ x. name x) (now (m .exit)) ≡ map (λ x. name x) (now (m .entry))) ⌝ }
 {
-    let mut s = [0, 0, first, 0, 0, 0, 0];
+    let mut s = [0, 0, first, 0, 0, 0, 0, watched, 0];
     let mut c = 0;
     while c < total {
         let k = at + 2 * index(c);
@@ -73,7 +84,7 @@ pub fn execute(t: &[u32], at: usize, total: u32, l: &Lists, first: u32, m: &mut 
         let v = index(t[k + 1]);
         let r = command(l, m, p, v, &mut s);
         if r == FAILED {
-            return Ended::Abort(c, s[UNUSED]);
+            return Ended::Abort(c, s[UNUSED], failure(&s));
         }
         if FAILED < r {
             return Ended::NoRoom(c, s[UNUSED]);

@@ -1,5 +1,5 @@
 -- What a node answers, from what its children answered.
-use Prim.Native.Nat.{ℕ, suc, _+_, _*_, _%_, _≤_, _<_}
+use Prim.Native.Nat.{ℕ, _+_, _*_, _%_, _≤_, _<_}
 use mathlib.Core.Bool.{Bool, true, false, not, _&&_, false≢true}
 use mathlib.Core.Path.{_≡_, refl, sym, ap, ap₂, _∙_}
 use mathlib.Core.List.{List}
@@ -15,9 +15,9 @@ use Rattle.semantics.proofs.Ints.{cast-of-int}
 use Rattle.semantics.proofs.Invariant.{Inv, Datum-ok, Good}
 use Rattle.semantics.proofs.Steps.{Value-ok, place-good, value-good}
 use Rattle.lookups.specs.Lists.{part, to-int-from-pointer, Lists, Field-node, Known-word}
-use Rattle.steps.specs.Answers.{slots, base-slot, end-slot, unused-slot, failed, state-of, Datum-is, Location-is, Answers, answers-ok, answers-failed, answers-full, Given, Finishes, Deref-finishes, Field-finishes, Sum-finishes, Load-finishes, Cast-finishes, Malloc-finishes}
+use Rattle.steps.specs.Answers.{slots, base-slot, end-slot, unused-slot, failed, state-of, Datum-is, Location-is, Stands, Answers, answers-ok, answers-failed, answers-full, Given, Finishes, Deref-finishes, Field-finishes, Sum-finishes, Load-finishes, Cast-finishes, Malloc-finishes}
 use Rattle.evaluator.specs.Result.{Node-answered, Place-answered, Value-answered}
-use Rattle.steps.proofs.Finish.{passed-on, given-ok}
+use Rattle.steps.proofs.Finish.{passed-on, given-ok, watches-on}
 use Rattle.lookups.proofs.Lookups.{noted-type}
 use Rattle.evaluator.proofs.Nodes.{value-node, offset-of, count-of, constant-node, size-node, variable-node, deref-node, field-node, sum-node, read-node, address-node, cast-node, malloc-node}
 use Rattle.evaluator.proofs.Outcomes.{worked-out, weakened, number-of, place-only}
@@ -32,9 +32,9 @@ from : {A B : Type 0} {IsA Child : A → ℕ → Words → Type 0} {Is : B → �
 from f good less made child finish =
     record {
       room = finish .room;
-      meets = λ t lists node vars log inv tree.
+      meets = λ t lists node vars w log st tree.
           let q = made t lists node vars tree in
-          rw (q .2 _) (finish .meets vars _ _ _ (weakened less (child .meets t lists (omega (arith, q .0)) vars log inv (q .1))) (good vars _ t _ (q .1) inv));
+          rw (q .2 _) (finish .meets vars _ w _ _ (weakened less (child .meets t lists (omega (arith, q .0)) vars w log st (q .1))) (good vars _ t _ (q .1) (st .inv)));
     }
 
 -- A node that is a result without a step.
@@ -44,9 +44,9 @@ pub from-none : {B : Type 0} {Is : B → ℕ → Words → Type 0} {Tree : ℕ �
 from-none made room =
     record {
       room = room;
-      meets = λ t lists node vars log inv tree.
+      meets = λ t lists node vars w log st tree.
           let q = made t lists node vars tree in
-          rw (q .1 _) (given-ok (q .0) log (q .2 .is) (q .2 .small) (q .2 .unused));
+          rw (q .1 _) (given-ok (q .0) log (q .2 .is) (q .2 .small) (q .2 .kept .unused) (watches-on (q .2 .kept) refl (st .watches)));
     }
 
 -- What a cast does, from whether its operand and its type are pointers.
@@ -137,15 +137,15 @@ module _ {l m : List Words} {n : ℕ} {s : Words} {k a : ℕ} (e : k ≡ part l 
   address-answer q child =
       record {
         room = child .room;
-        meets = λ t lists node vars log inv h.
+        meets = λ t lists node vars w log st h.
             let nd = address-node t n (kind-is lists node e q) h in
             let p′ = a-is lists node p in
-            rw (nd .1, ← p′) (handed (child .meets t lists (omega (arith, nd .0 .less, p′)) vars log inv (rw p′ (nd .0 .tree))));
+            rw (nd .1, ← p′) (handed (child .meets t lists (omega (arith, nd .0 .less, p′)) vars w log st (rw p′ (nd .0 .tree))));
       }
     where
-      handed : {r : ℕ} {m′ : List Words} {s′ : Words} {o : Outcome Location} → Answers Location-is m′ r s′ o → Answers Datum-is m′ r s′ (bind o address-step)
-      handed (answers-ok x log i small) = answers-ok _ log (record { value = i .at; base = i .base; end = i .end }) small
-      handed (answers-failed log i) = answers-failed log i
+      handed : {w r : ℕ} {m′ : List Words} {s′ : Words} {o : Outcome Location} → Answers Location-is w m′ r s′ o → Answers Datum-is w m′ r s′ (bind o address-step)
+      handed (answers-ok x log i small watch) = answers-ok _ log (record { value = i .at; base = i .base; end = i .end }) small watch
+      handed (answers-failed log i watch) = answers-failed log i watch
       handed (answers-full log i) = answers-full log i
 
   module _ {f : Bool} (q : k ≡ 8) (hf : f ≡ to-int-from-pointer l n) where
@@ -167,7 +167,7 @@ module _ {l m : List Words} {n : ℕ} {s : Words} {k a : ℕ} (e : k ≡ part l 
     keep-answer taken child =
         record {
           room = child .room;
-          meets = λ t lists node vars log inv h.
+          meets = λ t lists node vars w log stands h.
               let nd = cast-node t n (kind-is lists node e q) h in
               let p′ = a-is lists node p in
               let inside : node-a t n < count t nodes = omega (arith, nd .0 .less) in
@@ -177,7 +177,7 @@ module _ {l m : List Words} {n : ℕ} {s : Words} {k a : ℕ} (e : k ≡ part l 
               ∙ kept (is-pointer (node-type t (node-a t n))) (is-pointer (node-b t n)) (sym (by-types lists node (nd .0 .less) hf) ∙ taken)
               (λ int. cast-of-int (lists .passed) (node-a t n) inside (value-node t (node-a t n) (nd .0 .tree)) (no-pointer int) st)
               ∙ ap (λ x. value-at (value-of t x) st) (sym p′) in
-              rw same (child .meets t lists (omega (arith, nd .0 .less, p′)) vars log inv (rw p′ (nd .0 .tree)));
+              rw same (child .meets t lists (omega (arith, nd .0 .less, p′)) vars w log stands (rw p′ (nd .0 .tree)));
         }
 
   pub malloc-answer : {v r : ℕ} {m′ : List Words} {s₁ s₂ : Words} → k ≡ 10 → Value-answered l m a s v m′ s₁ → Malloc-finishes m′ v s₁ r s₂ → Value-answered l m n s r m′ s₂
@@ -195,11 +195,11 @@ module _ {l m : List Words} {n : ℕ} {s : Words} {k a : ℕ} (e : k ≡ part l 
 -- The left operand of the sum n was worked out, v with the slots s₁: what is answered for it and the right operand d, with the step z, is
 -- answered for the sum.
 record Left-done (l m : List Words) (n : ℕ) (s : Words) (d v z : ℕ) (m₁ : List Words) (s₁ : Words) : Type 0 where
-  then : {r : ℕ} {m₂ : List Words} {s₂ : Words} (t : Words) → Lists t l → n < count t nodes → (vars : ℕ) (log : List Event)
-      → Inv vars (length (column m 0)) (state-of m (word s unused-slot) log) → Value-ok vars (value-of t n)
-      → ((x : Datum) (log₁ : List Event) → d < count t nodes → Value-ok vars (value-of t d) → Datum-is x v s₁ → Inv vars (length (column m₁ 0)) (state-of m₁ (word s₁ unused-slot) log₁)
-      → Answers Datum-is m₂ r s₂ (bind (value-at (value-of t d) (state-of m₁ (word s₁ unused-slot) log₁)) (sum-step z x)))
-      → Answers Datum-is m₂ r s₂ (value-at (value-of t n) (state-of m (word s unused-slot) log))
+  then : {r : ℕ} {m₂ : List Words} {s₂ : Words} (t : Words) → Lists t l → n < count t nodes → (vars w : ℕ) (log : List Event)
+      → Stands vars w m s log → Value-ok vars (value-of t n)
+      → ((x : Datum) (log₁ : List Event) → d < count t nodes → Value-ok vars (value-of t d) → Datum-is x v s₁ → Stands vars w m₁ s₁ log₁
+      → Answers Datum-is w m₂ r s₂ (bind (value-at (value-of t d) (state-of m₁ (word s₁ unused-slot) log₁)) (sum-step z x)))
+      → Answers Datum-is w m₂ r s₂ (value-at (value-of t n) (state-of m (word s unused-slot) log))
 
 module _ {l m m₁ : List Words} {n k a v : ℕ} {s s₁ : Words} (e : k ≡ part l n 0) (p : a ≡ part l n 1) (q : k ≡ 5) (child : Value-answered l m a s v m₁ s₁) where
   pub sum-ended-answer : failed ≤ v → Value-answered l m n s v m₁ s₁
@@ -207,11 +207,11 @@ module _ {l m m₁ : List Words} {n k a v : ℕ} {s s₁ : Words} (e : k ≡ par
   sum-ended-answer over =
       record {
         room = child .room;
-        meets = λ t lists node vars log inv h.
+        meets = λ t lists node vars w log st h.
             let nd = sum-node t n (kind-is lists node e q) h in
             let p′ = a-is lists node p in
             let tree = rw (← p′) at (nd .0 .tree) in
-            rw (nd .2, ← p′) (passed-on {Ok = Datum-ok} _ (child .room) over .meets vars _ _ _ (child .meets t lists (omega (arith, nd .0 .less, p′)) vars log inv tree) (value-good tree _ inv));
+            rw (nd .2, ← p′) (passed-on {Ok = Datum-ok} _ (child .room) over .meets vars _ w _ _ (child .meets t lists (omega (arith, nd .0 .less, p′)) vars w log st tree) (value-good tree _ (st .inv)));
       }
 
   -- The child's number is read again for its type, a₂.
@@ -220,7 +220,7 @@ module _ {l m m₁ : List Words} {n k a v : ℕ} {s s₁ : Words} (e : k ≡ par
     unfolding place-at kind-of
     left-done =
         record {
-          then = λ t lists node vars log inv h goes.
+          then = λ t lists node vars w log st h goes.
               let nd = sum-node t n (kind-is lists node e q) h in
               let p′ = a-is lists node p in
               let d′ = b-is lists node g in
@@ -229,8 +229,8 @@ module _ {l m m₁ : List Words} {n k a v : ℕ} {s s₁ : Words} (e : k ≡ par
               let noted = noted-type lists inside (rw (p₂, ← p) at hy) in
               let step : step-of t (node-type t a) ≡ z = ap (step-of t) (sym (noted .0)) ∙ sym (hz t (noted .1)) in
               rw (nd .2, ← p′, step, ← d′)
-              (let w = worked-out (child .meets t lists inside vars log inv tree) (value-good tree _ inv) under in
-              rw (w .outcome) (goes (w .result) (w .log) (omega (arith, nd .1 .less, d′)) (rw d′ (nd .1 .tree)) (w .is) (w .inv)));
+              (let left = worked-out (child .meets t lists inside vars w log st tree) (value-good tree _ (st .inv)) under in
+              rw (left .outcome) (goes (left .result) (left .log) (omega (arith, nd .1 .less, d′)) (rw d′ (nd .1 .tree)) (left .is) (left .stands)));
         }
 
     pub sum-answer : {w r : ℕ} {m₂ : List Words} {s₂ s₃ : Words} → Value-answered l m₁ d s₁ w m₂ s₂
@@ -238,10 +238,10 @@ module _ {l m m₁ : List Words} {n k a v : ℕ} {s s₁ : Words} (e : k ≡ par
     sum-answer right finish =
         record {
           room = finish (record { value = v; base = word s₁ base-slot; end = word s₁ end-slot }) refl refl refl .room;
-          meets = λ t lists node vars log inv h.
-              left-done .then t lists node vars log inv h
-              (λ x log₁ inside tree hx inv₁.
-              finish x (hx .value) (hx .base) (hx .end) .meets vars _ _ _ (weakened number-of (right .meets t lists inside vars log₁ inv₁ tree)) (value-good tree _ inv₁));
+          meets = λ t lists node vars watched log st h.
+              left-done .then t lists node vars watched log st h
+              (λ x log₁ inside tree hx st₁.
+              finish x (hx .value) (hx .base) (hx .end) .meets vars _ watched _ _ (weakened number-of (right .meets t lists inside vars watched log₁ st₁ tree)) (value-good tree _ (st₁ .inv)));
         }
 
     -- The right operand is a constant: its number is added, and the slots stay.
@@ -251,9 +251,9 @@ module _ {l m m₁ : List Words} {n k a v : ℕ} {s s₁ : Words} (e : k ≡ par
     sum-constant-answer {i} four x hw hr small =
         record {
           room = child .room;
-          meets = λ t lists node vars log inv h.
-              left-done .then t lists node vars log inv h
-              (λ y log₁ inside tree hx inv₁.
+          meets = λ t lists node vars watched log st h.
+              left-done .then t lists node vars watched log st h
+              (λ y log₁ inside tree hx st₁.
               rw (constant-node t d (four t lists inside), ← a-is lists inside x)
-              (answers-ok _ log₁ (record { value = ap₂ (λ p x. (p + z * x) % 4294967296) (hx .value) (sym hw) ∙ sym hr; base = hx .base; end = hx .end }) small));
+              (answers-ok _ log₁ (record { value = ap₂ (λ p x. (p + z * x) % 4294967296) (hx .value) (sym hw) ∙ sym hr; base = hx .base; end = hx .end }) small (st₁ .watches)));
         }

@@ -67,7 +67,7 @@ module _ {l m : List Words} {n : ℕ} {s : Words} {a : ℕ} (p : a ≡ part l n 
     variable-read {y} under hy finish =
         record {
           room = finish .room;
-          meets = λ t lists node vars log inv h.
+          meets = λ t lists node vars watched log st h.
               let k = reads .each t lists node (value-node t n h) in
               let nd = read-node t n (k .0) h in
               let p′ = a-is lists node p in
@@ -78,7 +78,7 @@ module _ {l m : List Words} {n : ℕ} {s : Words} {a : ℕ} (p : a ≡ part l n 
               let i′ = a-is lists inside g in
               let y′ : y ≡ node-type t n = noted-type lists inside hy .0 ∙ rw p′ (sym (read-type t n (k .0) less)) in
               rw (nd .1, ← y′, ← p′, v .1, ← i′)
-              (finish .meets vars _ _ _ (answers-ok (variable-location i) log (record { at = omega arith }) under) (rw (v .1, ← i′) at (place-good tree _ inv)));
+              (finish .meets vars _ watched _ _ (answers-ok (variable-location i) log (record { at = omega arith }) under (st .watches)) (rw (v .1, ← i′) at (place-good tree _ (st .inv))));
         }
 
     -- It lies in all three lists.
@@ -91,7 +91,8 @@ module _ {l m : List Words} {n : ℕ} {s : Words} {a : ℕ} (p : a ≡ part l n 
         let inside : a < count t nodes = omega (arith, nd .0 .less, p′, h .node) in
         let v = variable-node t a (rw p′ (k .1)) (rw (← p′) at (nd .0 .tree)) in
         let less : i < h .state .vars = omega (arith, v .0, a-is (h .lists) inside g) in
-        omega (arith, h .state .inv .low, h .state .inv .high, h .state .inv .bases-length, h .state .inv .ends-length, h .state .most)
+        let inv = h .state .stands .inv in
+        omega (arith, inv .low, inv .high, inv .bases-length, inv .ends-length, h .state .most)
 
   -- The node that it reads stands before it.
   pub variable-below : Value-ready l m n s → Reads-variable l n → (a < n) × Unit {0}
@@ -107,14 +108,14 @@ module _ {l m : List Words} {n : ℕ} {s : Words} {a : ℕ} (p : a ≡ part l n 
   malloc-constant-answer {i = i} e q four x hv small finish =
       record {
         room = finish .room;
-        meets = λ t lists node vars log inv h.
+        meets = λ t lists node vars watched log st h.
             let nd = malloc-node t n (kind-is lists node e q) h in
             let p′ = a-is lists node p in
             let inside : a < count t nodes = omega (arith, nd .0 .less, p′) in
             let c = constant-node t a (four t lists inside) in
             let i′ = a-is lists inside x in
             rw (nd .1, ← p′, c, ← i′)
-            (finish .meets vars _ _ _ (answers-ok (unbounded i) log (record { value = sym hv }) small) (rw (c, ← i′) at (value-good (rw (← p′) at (nd .0 .tree)) _ inv)));
+            (finish .meets vars _ watched _ _ (answers-ok (unbounded i) log (record { value = sym hv }) small (st .watches)) (rw (c, ← i′) at (value-good (rw (← p′) at (nd .0 .tree)) _ (st .inv))));
       }
 
   -- ---- a command's place
@@ -125,13 +126,13 @@ module _ {l m : List Words} {n : ℕ} {s : Words} {a : ℕ} (p : a ≡ part l n 
   assigned-variable {r = r} ready q hx hr =
       let t = ready .table in
       let v = variable-node t n (q t (ready .lists) (ready .node) (place-node t n (ready .tree))) (ready .tree) in
-      let small : r < failed = omega (arith, v .0, a-is (ready .lists) (ready .node) p, ready .state .inv .low, ready .state .inv .high, ready .state .most) in
+      let small : r < failed = omega (arith, v .0, a-is (ready .lists) (ready .node) p, ready .state .stands .inv .low, ready .state .stands .inv .high, ready .state .most) in
       record {
         room = ready .room;
-        meets = λ t lists node vars log inv h.
-            rw (variable-node t n (q t lists node (place-node t n h)) h .1, ← a-is lists node p) (answers-ok (variable-location a) log (record { at = omega arith }) small);
+        meets = λ t lists node vars watched log st h.
+            rw (variable-node t n (q t lists node (place-node t n h)) h .1, ← a-is lists node p) (answers-ok (variable-location a) log (record { at = omega arith }) small (st .watches));
       }
 
 -- Of a place that was worked out, the bounds are not asked.
 pub assigned-place : {l m m′ : List Words} {n r : ℕ} {s s′ : Words} → Place-answered l m n s r m′ s′ → Assigned-answered l m n s r m′ s′
-assigned-place h = record { room = h .room; meets = λ t lists node vars log inv tree. weakened place-only (h .meets t lists node vars log inv tree) }
+assigned-place h = record { room = h .room; meets = λ t lists node vars watched log st tree. weakened place-only (h .meets t lists node vars watched log st tree) }

@@ -9,7 +9,7 @@ use Rattle.words.specs.Columns.{column}
 use Rattle.semantics.specs.Words.{Words, word}
 use Rattle.semantics.specs.Rules.{Datum, Location, Event, State, Outcome, ok}
 use Rattle.semantics.proofs.Invariant.{Inv, Later, Good, good-ok, good-fails, good-no-room}
-use Rattle.steps.specs.Answers.{unused-slot, failed, state-of, Datum-is, Location-is, Number-is, Place-is, Answers, answers-ok, answers-failed, answers-full}
+use Rattle.steps.specs.Answers.{unused-slot, failed, state-of, Datum-is, Location-is, Number-is, Place-is, Stands, Answers, answers-ok, answers-failed, answers-full}
 use Rattle.evaluator.specs.Result.{Value-answered}
 
 -- The invariant speaks of the lists' own length.
@@ -17,27 +17,28 @@ pub own-length : {vars len : ℕ} {st : State} → Inv vars len st → Inv vars 
 own-length {vars} {st = st} inv = subst (λ k. Inv vars k st) (sym (inv .values-length)) inv
 
 -- What follows from an outcome that was answered, and is good: the lists are as long as they were, and a place lies within them.
-pub length-after : {A : Type 0} {Is : A → ℕ → Words → Type 0} {P : A → State → Type 0} {m : List Words} {r : ℕ} {s : Words} {vars len : ℕ} {s₀ : State} {o : Outcome A}
-    → Answers Is m r s o → Good vars len s₀ P o → length (column m 0) ≡ len
-length-after (answers-ok x log h small) (good-ok inv later fine) = inv .values-length
-length-after (answers-failed log h) (good-fails inv later) = inv .values-length
+pub length-after : {A : Type 0} {Is : A → ℕ → Words → Type 0} {P : A → State → Type 0} {m : List Words} {w r : ℕ} {s : Words} {vars len : ℕ} {s₀ : State} {o : Outcome A}
+    → Answers Is w m r s o → Good vars len s₀ P o → length (column m 0) ≡ len
+length-after (answers-ok x log h small watch) (good-ok inv later fine) = inv .values-length
+length-after (answers-failed log h watch) (good-fails inv later sound) = inv .values-length
 length-after (answers-full log h) (good-no-room inv later) = inv .values-length
 
 -- The result of a good outcome that was answered by v, no failure, and the state that it leaves.
-pub record Worked-out {A : Type 0} (Is : A → ℕ → Words → Type 0) (P : A → State → Type 0) (vars len : ℕ) (m : List Words) (v : ℕ) (s : Words) (s₀ : State) (o : Outcome A) : Type 0 where
+pub record Worked-out {A : Type 0} (Is : A → ℕ → Words → Type 0) (P : A → State → Type 0) (vars len w : ℕ) (m : List Words) (v : ℕ) (s : Words) (s₀ : State) (o : Outcome A) : Type 0 where
   pub result : A
   pub log : List Event
   pub outcome : o ≡ ok result (state-of m (word s unused-slot) log)
   pub is : Is result v s
   pub long : length (column m 0) ≡ len
-  pub inv : Inv vars (length (column m 0)) (state-of m (word s unused-slot) log)
+  pub stands : Stands vars w m s log
   pub later : Later s₀ (state-of m (word s unused-slot) log)
   pub fine : P result (state-of m (word s unused-slot) log)
 
-pub worked-out : {A : Type 0} {Is : A → ℕ → Words → Type 0} {P : A → State → Type 0} {vars len v : ℕ} {m : List Words} {s : Words} {s₀ : State} {o : Outcome A}
-    → Answers Is m v s o → Good vars len s₀ P o → v < failed → Worked-out Is P vars len m v s s₀ o
-worked-out (answers-ok x log h small) (good-ok inv later fine) under = record { result = x; log = log; outcome = refl; is = h; long = inv .values-length; inv = own-length inv; later = later; fine = fine }
-worked-out (answers-failed log h) g under = absurd (omega arith)
+pub worked-out : {A : Type 0} {Is : A → ℕ → Words → Type 0} {P : A → State → Type 0} {vars len w v : ℕ} {m : List Words} {s : Words} {s₀ : State} {o : Outcome A}
+    → Answers Is w m v s o → Good vars len s₀ P o → v < failed → Worked-out Is P vars len w m v s s₀ o
+worked-out (answers-ok x log h small watch) (good-ok inv later fine) under =
+    record { result = x; log = log; outcome = refl; is = h; long = inv .values-length; stands = record { inv = own-length inv; watches = watch }; later = later; fine = fine }
+worked-out (answers-failed log h watch) g under = absurd (omega arith)
 worked-out (answers-full log h) g under = absurd (omega arith)
 
 -- A call that only reads memory leaves its lists, and their names.
@@ -48,9 +49,9 @@ pub kept-names : {m₁ m₂ : List (RefT (List ℕ))} → m₂ ≡ m₁ → map 
 kept-names same = ap (map (λ x. x .name)) same
 
 -- Less is asked of a result.
-pub weakened : {A : Type 0} {Is Child : A → ℕ → Words → Type 0} {m : List Words} {r : ℕ} {s : Words} {o : Outcome A} → ((x : A) → Is x r s → Child x r s) → Answers Is m r s o → Answers Child m r s o
-weakened f (answers-ok x log h small) = answers-ok x log (f x h) small
-weakened f (answers-failed log h) = answers-failed log h
+pub weakened : {A : Type 0} {Is Child : A → ℕ → Words → Type 0} {m : List Words} {w r : ℕ} {s : Words} {o : Outcome A} → ((x : A) → Is x r s → Child x r s) → Answers Is w m r s o → Answers Child w m r s o
+weakened f (answers-ok x log h small watch) = answers-ok x log (f x h) small watch
+weakened f (answers-failed log h watch) = answers-failed log h watch
 weakened f (answers-full log h) = answers-full log h
 
 pub number-of : {r : ℕ} {s : Words} (x : Datum) → Datum-is x r s → Number-is x r s

@@ -80,7 +80,7 @@ module _ {l m : List Words} {n : ℕ} {s : Words} (h : Place-ready l m n s) {k :
   unfolding kind-of
   variable-small q p =
       let v = variable-node (h .table) n (kind-is (h .lists) (h .node) e q) (h .tree) in
-      (omega (arith, v .0, a-is (h .lists) (h .node) p, h .state .inv .low, h .state .inv .high, h .state .most), h .room)
+      (omega (arith, v .0, a-is (h .lists) (h .node) p, h .state .stands .inv .low, h .state .stands .inv .high, h .state .most), h .room)
 
   pub deref-ready : {a : ℕ} → k ≡ 2 → a ≡ part l n 1 → (a < n) × Value-ready l m a s
   unfolding kind-of
@@ -156,14 +156,14 @@ module _ {l m : List Words} {a : ℕ} {s : Words} where
   -- After a value was worked out, memory has room for as many words as before.
   pub room-after : {v : ℕ} {m′ : List Words} {s′ : Words} → Value-ready l m a s → Value-answered l m a s v m′ s′ → length (column m′ 0) ≤ 65536
   room-after h answer =
-      let same = length-after (answer .meets (h .table) (h .lists) (h .node) (h .state .vars) (h .state .log) (h .state .inv) (h .tree)) (value-good (h .tree) _ (h .state .inv)) in
+      let same = length-after (answer .meets (h .table) (h .lists) (h .node) (h .state .vars) (h .state .watched) (h .state .log) (h .state .stands) (h .tree)) (value-good (h .tree) _ (h .state .stands .inv)) in
       omega (arith, h .state .most)
 
   pub inside-after : {at : ℕ} {m′ : List Words} {s′ : Words} → Place-ready l m a s → Place-answered l m a s at m′ s′ → at < failed
       → (at < length (column m′ 0)) × (at < length (column m′ 1)) × (at < length (column m′ 2))
   inside-after h answer under =
-      let w = worked-out (answer .meets (h .table) (h .lists) (h .node) (h .state .vars) (h .state .log) (h .state .inv) (h .tree)) (place-good (h .tree) _ (h .state .inv)) under in
-      omega (arith, touched (w .inv) (w .fine) (w .is .at))
+      let w = worked-out (answer .meets (h .table) (h .lists) (h .node) (h .state .vars) (h .state .watched) (h .state .log) (h .state .stands) (h .tree)) (place-good (h .tree) _ (h .state .stands .inv)) under in
+      omega (arith, touched (w .stands .inv) (w .fine) (w .is .at))
 
 -- The right operand of a sum, after the left one.
 pub right-ready : {l m m′ : List Words} {n k a d v : ℕ} {s s′ : Words} (h : Value-ready l m n s) → k ≡ part l n 0 → k ≡ 5 → a ≡ part l n 1 → d ≡ part l n 2
@@ -173,6 +173,6 @@ right-ready {n = n} h e q p g answer under =
     let t = h .table in
     let nd = sum-node t n (kind-is (h .lists) (h .node) e q) (h .tree) in
     let c = sum-ready h e p q .1 in
-    let w = worked-out (answer .meets t (h .lists) (c .node) (h .state .vars) (h .state .log) (h .state .inv) (c .tree)) (value-good (c .tree) _ (h .state .inv)) under in
+    let w = worked-out (answer .meets t (h .lists) (c .node) (h .state .vars) (h .state .watched) (h .state .log) (h .state .stands) (c .tree)) (value-good (c .tree) _ (h .state .stands .inv)) under in
     let d′ = b-is (h .lists) (h .node) g in
-    (rw d′ (nd .1 .less), record { table = t; lists = h .lists; node = omega (arith, nd .1 .less, h .node, d′); room = answer .room; state = record { vars = h .state .vars; log = w .log; inv = w .inv; most = omega (arith, w .long, h .state .most) }; tree = rw d′ (nd .1 .tree) })
+    (rw d′ (nd .1 .less), record { table = t; lists = h .lists; node = omega (arith, nd .1 .less, h .node, d′); room = answer .room; state = record { vars = h .state .vars; watched = h .state .watched; log = w .log; stands = w .stands; most = omega (arith, w .long, h .state .most) }; tree = rw d′ (nd .1 .tree) })

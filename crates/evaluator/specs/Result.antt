@@ -8,16 +8,16 @@ use Rattle.semantics.specs.Words.{Words, word}
 use Rattle.semantics.specs.Table.{nodes, count, variable, read, value, sort-of, node-kind, node-a}
 use Rattle.semantics.specs.Syntax.{place-of, value-of}
 use Rattle.semantics.specs.Rules.{Event, State, Outcome, place-at, value-at}
-use Rattle.semantics.proofs.Invariant.{Inv}
 use Rattle.semantics.proofs.Steps.{Place-ok, Value-ok}
 use Rattle.lookups.specs.Lists.{Lists}
-use Rattle.steps.specs.Answers.{slots, unused-slot, state-of, Datum-is, Location-is, Place-is, Answers}
+use Rattle.steps.specs.Answers.{slots, unused-slot, state-of, Datum-is, Location-is, Place-is, Stands, Answers}
 
--- A state of a begun run, with the log that the rules have there.
-pub record Ready (m : List Words) (u : ℕ) : Type 0 where
+-- A state of a begun run, with the log that the rules have there, and some word that is watched for.
+pub record Ready (m : List Words) (s : Words) : Type 0 where
   pub vars : ℕ
+  pub watched : ℕ
   pub log : List Event
-  pub inv : Inv vars (length (column m 0)) (state-of m u log)
+  pub stands : Stands vars watched m s log
   pub most : length (column m 0) ≤ 65536
 
 -- Node n is one of some table with the lists l, makes sense as Tree says, and can be worked out in the memory m from the state with U in s.
@@ -26,16 +26,16 @@ pub record Node-ready (Tree : ℕ → Words → Type 0) (l m : List Words) (n : 
   pub lists : Lists table l
   pub node : n < count table nodes
   pub room : length s ≡ slots
-  pub state : Ready m (word s unused-slot)
+  pub state : Ready m s
   pub tree : Tree (state .vars) table
 
--- The outcome of node n from that state is what was answered, r with the slots s′ and the memory m′, whatever the table with these lists and
--- the log.
+-- The outcome of node n from that state is what was answered, r with the slots s′ and the memory m′, whatever the table with these lists,
+-- the log and the word that is watched for.
 pub record Node-answered {A : Type 0} (Is : A → ℕ → Words → Type 0) (Tree : ℕ → Words → Type 0) (outcome : Words → State → Outcome A)
     (l m : List Words) (n : ℕ) (s : Words) (r : ℕ) (m′ : List Words) (s′ : Words) : Type 0 where
   pub room : length s′ ≡ slots
-  pub meets : (t : Words) → Lists t l → n < count t nodes → (vars : ℕ) (log : List Event) → Inv vars (length (column m 0)) (state-of m (word s unused-slot) log)
-      → Tree vars t → Answers Is m′ r s′ (outcome t (state-of m (word s unused-slot) log))
+  pub meets : (t : Words) → Lists t l → n < count t nodes → (vars w : ℕ) (log : List Event) → Stands vars w m s log
+      → Tree vars t → Answers Is w m′ r s′ (outcome t (state-of m (word s unused-slot) log))
 
 -- Places and values.
 abbrev pub Place-tree : ℕ → ℕ → Words → Type 0

@@ -12,13 +12,14 @@ pub fn execute(
     total: u32,
     l: &Lists,
     first: u32,
+    watched: u32,
     values: &mut [u32],
     bases: &mut [u32],
     ends: &mut [u32],
 ) -> Ended
-    requires { ⌜ Executable (now t) (map (λ x. now x) (now l)) at total first (lists (now values) (now bases) (now ends)) ⌝ }
-    ensures { λ r. ⌜ Executed (now (t .entry)) (lists (now (values .entry)) (now (bases .entry)) (now (ends .entry))) first r (lists (now (values .exit)) (now (bases .exit)) (now (ends .exit))) ⌝ }
+    requires { ⌜ Executable (now t) (map (λ x. now x) (now l)) at total first watched (lists (now values) (now bases) (now ends)) ⌝ }
+    ensures { λ r. ⌜ Executed (now (t .entry)) (lists (now (values .entry)) (now (bases .entry)) (now (ends .entry))) first watched r (lists (now (values .exit)) (now (bases .exit)) (now (ends .exit))) ⌝ }
 {
     let mut m = [values, bases, ends];
-    commands::execute(t, at, total, l, first, &mut m)
+    commands::execute(t, at, total, l, first, watched, &mut m)
 }

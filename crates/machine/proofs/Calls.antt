@@ -1,5 +1,5 @@
 -- A whole call of a table that passed the check, from what its parts did.
-use Prim.Native.Nat.{ℕ, _+_, _*_, _-_, _≤_, _<_}
+use Prim.Native.Nat.{ℕ, _+_, _*_, _-_, _≤_, _<_, _^_}
 use mathlib.Core.Path.{_≡_, refl, sym, ap, _∙_}
 use mathlib.Core.List.{[], _∷_, _++_}
 use native.Mathlib.Omega.{arith}
@@ -10,11 +10,13 @@ use Rattle.semantics.specs.Table.{variables, count}
 use Rattle.semantics.specs.Registers.{register-count}
 use Rattle.semantics.specs.Check.{Verdict, passes, refused, _or-else_, check, arguments-fault, registers-fault, call-fault}
 use Rattle.semantics.specs.Rules.{State}
-use Rattle.semantics.specs.Run.{cleared, registers-below, begin, run, call}
+use Rattle.semantics.specs.Run.{cleared, registers-below, begin, Ending, ending, Run, commands-below, run, result-of, call}
+use Rattle.semantics.specs.Explain.{without-bounds, reason-of, block-start, explanation, explain}
 use Rattle.semantics.proofs.Passed.{Passed, passed, section-ok, section-end}
 use Rattle.semantics.proofs.Safety.{Begun, begun, cleared-inv, begin-inv}
 use Rattle.lookups.specs.Lists.{Lists}
-use Rattle.steps.specs.Answers.{state-of}
+use Rattle.semantics.proofs.Explain.{failure-told}
+use Rattle.steps.specs.Answers.{state-of, check-told}
 use Rattle.layout.specs.Layout.{verdict-of, section-of, layout, layout-by, Stands}
 use Rattle.layout.specs.declared.Table.{Table}
 use Rattle.layout.specs.declared.Parsed.the-variants as parsed
@@ -27,10 +29,15 @@ use Rattle.registers.proofs.Blocks.{registers-alike}
 use Rattle.commands.specs.Command.{lists}
 use Rattle.commands.specs.Execution as commands
 use Rattle.commands.specs.Execution.{ended-of, Starts}
+use Rattle.steps.specs.declared.FailedCheck.{FailedCheck}
 use Rattle.commands.specs.declared.Ended.{Ended}
-use Rattle.machine.specs.Run.{answer-of, Is, Program, Can-begin, Has-begun, Startable, Executed}
+use Rattle.commands.specs.declared.Ended.the-variants.{Done, Abort, NoRoom}
+use Rattle.machine.specs.Run.{answer-of, Is, Program, Can-begin, Has-begun}
+use Rattle.machine.specs.Explain.{answer-told, reason-by, started, ended-because, Tells-ended, Startable, Executed, Watchable, Called}
+use Rattle.machine.specs.declared.Explained.{Explained}
+use Rattle.machine.specs.declared.Explained.the-variants.{Refused}
+use Rattle.machine.specs.declared.Explained.the-variants as the-answer
 use Rattle.machine.specs.declared.Answer.{Answer}
-use Rattle.machine.specs.declared.Answer.the-variants.{Refused}
 
 -- ---- what the check answered
 
@@ -46,12 +53,17 @@ layout-refused t (refused m q) e = cc
 abbrev pub rest-fault : Words → Words → Words → ℕ → ℕ → ℕ → Verdict
 rest-fault t inputs registers values bases ends = arguments-fault t inputs values bases ends or-else registers-fault t registers values
 
+-- A call that is refused, whatever word is watched for.
+refused-call : (w : ℕ) (t inputs registers vs bs es : Words) {n p : ℕ} → call-fault t inputs registers (length vs) (length bs) (length es) ≡ refused n p
+    → Called w t inputs registers vs bs es (Refused n p) vs bs es
+unfolding call explain
+refused-call w t inputs registers vs bs es e = record { is = rw e }
+
 -- A table that is refused is a call that is refused.
-pub table-refused : (t inputs registers vs bs es : Words) {n p : ℕ} → refused n p ≡ check t → Is (call t inputs registers vs bs es) (Refused n p) vs bs es
-unfolding call call-fault
-table-refused t inputs registers vs bs es e =
-    rw (or-else-refuse (check t) (rest-fault t inputs registers (length vs) (length bs) (length es)) (sym e))
-    (record { answer = refl; values = refl; bases = refl; ends = refl })
+pub table-refused : (w : ℕ) (t inputs registers vs bs es : Words) {n p : ℕ} → refused n p ≡ check t → Called w t inputs registers vs bs es (Refused n p) vs bs es
+unfolding call-fault
+table-refused w t inputs registers vs bs es e =
+    refused-call w t inputs registers vs bs es (or-else-refuse (check t) (rest-fault t inputs registers (length vs) (length bs) (length es)) (sym e))
 
 -- ---- the check of the other arguments
 
@@ -67,11 +79,11 @@ pub told-refused : {r : told.Verdict} {v : Verdict} {n p : ℕ} → verdict-of r
 told-refused e q = told-as e q
 
 -- A call with arguments that are refused is refused.
-pub call-refused : (t inputs registers vs bs es : Words) {n p : ℕ} → check t ≡ passes → refused n p ≡ rest-fault t inputs registers (length vs) (length bs) (length es)
-    → Is (call t inputs registers vs bs es) (Refused n p) vs bs es
-unfolding call call-fault
-call-refused t inputs registers vs bs es ok e =
-    rw (or-else-pass (check t) (rest-fault t inputs registers (length vs) (length bs) (length es)) ok ∙ sym e) (record { answer = refl; values = refl; bases = refl; ends = refl })
+pub call-refused : (w : ℕ) (t inputs registers vs bs es : Words) {n p : ℕ} → check t ≡ passes → refused n p ≡ rest-fault t inputs registers (length vs) (length bs) (length es)
+    → Called w t inputs registers vs bs es (Refused n p) vs bs es
+unfolding call-fault
+call-refused w t inputs registers vs bs es ok e =
+    refused-call w t inputs registers vs bs es (or-else-pass (check t) (rest-fault t inputs registers (length vs) (length bs) (length es)) ok ∙ sym e)
 
 -- ---- the memory at the start
 
@@ -256,16 +268,71 @@ module _ {t first sizes offsets notes : Words} {l : Table} (pr : Program t first
       unfolding state
       starts = rw (first-length, ← same-state) (begin-inv call-begun)
 
-      pub call-startable : Startable t l first sizes offsets notes u v₁ b₁ e₁
-      call-startable =
-          record { program = pr; layout-is = el; log = state .log; inv = starts; most = omega (arith, first-length, call-begun .lists .most) }
+      module _ {w : ℕ} (watch : Watchable w t inputs registers vs bs es) where
+        pub watched-small : w < 2 ^ 32
+        watched-small = omega (arith, watch .room not-refused .1, call-begun .lists .most)
 
-      pub call-executed : {r : Answer} {vs′ bs′ es′ : Words} → Executed t v₁ b₁ e₁ u r vs′ bs′ es′ → Is (call t inputs registers vs bs es) r vs′ bs′ es′
-      unfolding call run state
-      call-executed x = rw (not-refused, same-state) (x .meets (state .log) starts)
+        pub call-startable : {x : ℕ} → x ≡ w → Startable t l first sizes offsets notes u x v₁ b₁ e₁
+        unfolding state
+        call-startable e =
+            let room = watch .room not-refused in
+            record {
+              program = pr;
+              layout-is = el;
+              log = state .log;
+              inv = starts;
+              most = omega (arith, first-length, call-begun .lists .most);
+              from = omega (arith, room .0, begins .unused);
+              upto = omega (arith, room .1, first-length);
+            }
 
--- A run's ending, told as an answer.
-pub told-executed : {t vs bs es : Words} {u : ℕ} {e : Ended} {r : Answer} {vs′ bs′ es′ : Words} → commands.Executed t (lists vs bs es) u e (lists vs′ bs′ es′) → answer-of r ≡ ended-of e
-    → Executed t vs bs es u r vs′ bs′ es′
-told-executed h same =
-    record { meets = λ log inv. let m = h .meets log inv in record { answer = same ∙ m .answer; values = m .values; bases = m .bases; ends = m .ends } }
+        pub call-executed : {x : ℕ} {r : Explained} {vs′ bs′ es′ : Words} → x ≡ w → Executed t v₁ b₁ e₁ u x r vs′ bs′ es′ → Called w t inputs registers vs bs es r vs′ bs′ es′
+        unfolding call run explain state
+        call-executed q x = record { is = rw (not-refused, ← q, same-state) (x .meets (state .log) starts) }
+
+-- ---- a run's ending, told as an answer
+
+same-ending : {e e′ : Ending} {u u′ : ℕ} → ending e u ≡ ending e′ u′ → e ≡ e′
+same-ending h = cc
+
+-- An abort tells the newest check of its log.
+ended-explained : {t : Words} {w : ℕ} (vars : ℕ) {s : State} {o : Run} (e : Ended) → ended-of e ≡ result-of o .answer → commands.Tells t w s o e
+    → ended-because e ≡ started (block-start (o .state .log) w) (explanation vars (o .ending) (o .state .log))
+ended-explained vars (Done u) h commands.tells-done = rw (← same-ending h)
+ended-explained {t} vars {s = s} {o = o} (Abort c u x) h (commands.tells-abort failed found) =
+    rw (← same-ending h, failure-told vars t c c (commands-below t c s .state) (check-told x) (o .state) failed, found)
+ended-explained vars (NoRoom c u) h commands.tells-no-room = rw (← same-ending h)
+
+pub told-executed : {t vs bs es : Words} {u w : ℕ} {e : Ended} {r : Explained} {vs′ bs′ es′ : Words} → commands.Executed t (lists vs bs es) u w e (lists vs′ bs′ es′) → Tells-ended e r
+    → Executed t vs bs es u w r vs′ bs′ es′
+told-executed {t} {e = e} h told =
+    record {
+      meets = λ log inv.
+          let m = h .meets log inv in
+          rw (told .answer, told .explanation, m .answer, m .values, m .bases, m .ends, ended-explained (count t variables) e (m .answer) (m .tells));
+    }
+
+pub told-done : {e : Ended} {u : ℕ} → e ≡ Done u → Tells-ended e (the-answer.Done u)
+told-done q = rw q (record { answer = refl; explanation = refl })
+
+pub told-abort : {e : Ended} {c u r : ℕ} {x : FailedCheck} → e ≡ Abort c u x → r ≡ reason-by (x .place) (x .base) (x .end)
+    → Tells-ended e (the-answer.Abort c u (record { node = x .node; place = x .place; words = x .words; base = x .base; end = x .end; reason = r; first = x .block }))
+unfolding reason-of without-bounds
+told-abort q h = rw (q, h) (record { answer = refl; explanation = refl })
+
+pub told-no-room : {e : Ended} {c u : ℕ} → e ≡ NoRoom c u → Tells-ended e (the-answer.NoRoom c u)
+told-no-room q = rw q (record { answer = refl; explanation = refl })
+
+-- ---- a call in which nothing is to be found
+
+-- The word after the last can be watched for: no block has it.
+pub end-watchable : (t inputs registers vs bs es : Words) → Watchable (length vs) t inputs registers vs bs es
+end-watchable t inputs registers vs bs es =
+    record { room = λ e. (begin-inv (begun t inputs registers (length vs) (length bs) (length es) e) .high, omega arith) }
+
+-- Its answer alone is that of the run.
+pub call-answered : {w : ℕ} {t inputs registers vs bs es : Words} {e : Explained} {r : Answer} {vs′ bs′ es′ : Words} → Called w t inputs registers vs bs es e vs′ bs′ es′ → answer-of r ≡ answer-told e
+    → Is (call t inputs registers vs bs es) r vs′ bs′ es′
+call-answered h same =
+    let all = ap (λ x. x .result) (h .is) in
+    record { answer = same ∙ ap (λ x. x .answer) all; values = ap (λ x. x .values) all; bases = ap (λ x. x .bases) all; ends = ap (λ x. x .ends) all }

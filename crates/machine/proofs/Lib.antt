@@ -1,2 +1,4 @@
 -- Laws that the functions' proofs cite.
+pub mod Reasons
 pub mod Calls
+pub mod Explaining

@@ -1,22 +1,15 @@
 -- A whole call: the answer's enum as the paper's numbers and values, and what the lists hold afterwards.
-use Prim.Native.Nat.{ℕ, _≤_}
+use Prim.Native.Nat.{ℕ}
 use mathlib.Core.Path.{_≡_}
-use mathlib.Core.List.{List}
 use lib.ListN.{length}
 use Rattle.semantics.specs.Words.{Words}
-use Rattle.semantics.specs.Table.{variables, commands, count}
+use Rattle.semantics.specs.Table.{variables, count}
 use Rattle.semantics.specs.Check.{check, passes}
-use Rattle.semantics.specs.Rules.{Event}
 use Rattle.semantics.specs.Run as semantics
-use Rattle.semantics.specs.Run.{refusal, ending, done, abort, out-of-memory, Result, result-of, commands-below}
+use Rattle.semantics.specs.Run.{refusal, ending, done, abort, out-of-memory, Result}
 use Rattle.semantics.proofs.Safety.{Begun}
-use Rattle.steps.specs.Answers.{state-of}
-use Rattle.layout.specs.Layout.{layout}
-use Rattle.layout.specs.declared.Table.{Table}
 use Rattle.table.specs.Promises.{Left}
 use Rattle.registers.specs.Blocks.{Holds}
-use Rattle.commands.specs.Command.{lists}
-use Rattle.commands.specs.Execution.{Starts}
 use Rattle.machine.specs.declared.Answer.{Answer}
 use Rattle.machine.specs.declared.Answer.the-variants.{Refused, Done, Abort, NoRoom}
 
@@ -48,15 +41,3 @@ pub record Can-begin (vars : ℕ) (inputs registers vs bs es : Words) : Type 0 w
 -- Lists as long as vs and a first unused word are those that a run of a table with this many variables begins with.
 pub record Has-begun (vars : ℕ) (inputs registers vs vs′ bs′ es′ : Words) (u : ℕ) : Type 0 where
   pub begins : (t : Words) → vars ≡ count t variables → Holds (semantics.begin t inputs registers (length vs)) vs′ bs′ es′ u
-
--- The table's layout, and lists that hold a state which a run of the table can begin with.
-pub record Startable (t : Words) (l : Table) (first sizes offsets notes : Words) (u : ℕ) (vs bs es : Words) : Type 0 where
-  pub program : Program t first sizes offsets notes
-  pub layout-is : l ≡ layout t
-  pub log : List Event
-  pub inv : Starts t (lists vs bs es) u log
-  pub most : length vs ≤ 65536
-
--- The commands were run from these lists and this first unused word, and ended so, whatever the log at the start.
-pub record Executed (t vs bs es : Words) (u : ℕ) (r : Answer) (vs′ bs′ es′ : Words) : Type 0 where
-  pub meets : (log : List Event) → Starts t (lists vs bs es) u log → Is (result-of (commands-below t (count t commands) (state-of (lists vs bs es) u log))) r vs′ bs′ es′

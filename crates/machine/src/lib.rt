@@ -1,13 +1,15 @@
-// Runs a table: the commands in order over the three lists of the memory.
+// Runs a table: the commands in order over the three lists of the memory, and tells why a run aborted.
 ghost use mathlib.Core.Path.{_≡_};
 ghost use Rattle.semantics.specs.Safety.{Spatially-safe};
 ghost use Rattle.semantics.specs.Log.{Log-believable};
 ghost use Rattle.semantics.specs.Check.{_or-else_, check, arguments-fault, registers-fault};
 ghost use Rattle.semantics.specs.Run.{call};
+ghost use Rattle.semantics.specs.Explain.{explain, Truly-explained};
+ghost use Rattle.semantics.proofs.Registers.{Whole};
 ghost use Rattle.layout.specs.Layout.{verdict-of, Stands};
 ghost use Rattle.layout.specs.Layout as layout-specs;
-ghost use Rattle.commands.specs.Execution.{ended-of};
-ghost use Rattle.machine.specs.Run.{answer-of, Is, Program, Can-begin, Has-begun, Startable, Executed};
+ghost use Rattle.machine.specs.Run.{answer-of, Is, Program, Can-begin, Has-begun};
+ghost use Rattle.machine.specs.Explain.{answer-told, explained-of, cause-told, reason-by, starting-at, Declared, Tells-ended, Startable, Executed, Watchable, Called};
 use arguments::check_arguments;
 use commands::Ended;
 use layout::Firsts;
@@ -20,9 +22,11 @@ use layout::Table;
 use layout::Verdict;
 use registers::check_registers;
 use registers::set_registers;
+use registers::start_of;
 use words::clear;
 use words::clear_from;
 use words::index;
+use words::long;
 use words::narrow;
 use words::store_all;
 
@@ -34,14 +38,72 @@ pub enum Answer {
     NoRoom(u32, u32),
 }
 
-// A run's ending as the answer of a call.
-fn told(e: Ended) -> Answer
-    ensures { λ r. ⌜ answer-of r ≡ ended-of e ⌝ }
+// The check that a run aborted by: its node, the place and the number of words wanted, the bounds, a reason, and the first word of the variable or
+// block in which the bounds lie. Reasons: 1 no bounds, 2 before the base, 3 past the end.
+pub struct Cause {
+    pub node: u32,
+    pub place: u64,
+    pub words: u32,
+    pub base: u32,
+    pub end: u32,
+    pub reason: u32,
+    pub first: u32,
+}
+
+// How a call ended, as in `Answer`, and for an abort its cause.
+pub enum Explained {
+    Refused(u32, usize),
+    Done(u32),
+    Abort(u32, u32, Cause),
+    NoRoom(u32, u32),
+}
+
+// Why a check was not passed: the lowest reason that applies.
+fn reason(place: u64, base: u32, end: u32) -> u32
+    ensures { λ r. ⌜ r ≡ reason-by place base end ⌝ }
+{
+    // Both are 0.
+    if long(base) + long(end) == 0 {
+        return 1;
+    }
+    if place < long(base) {
+        return 2;
+    }
+    3
+}
+
+// A run's ending as the answer of a call. As first word it has the start of the block that was watched for.
+fn told(e: Ended) -> Explained
+    ensures { λ r. ⌜ Tells-ended e r ⌝ }
 {
     match e {
-        Ended::Done(unused) => Answer::Done(unused),
-        Ended::Abort(command, unused) => Answer::Abort(command, unused),
-        Ended::NoRoom(command, unused) => Answer::NoRoom(command, unused),
+        Ended::Done(unused) => Explained::Done(unused),
+        Ended::Abort(command, unused, x) => Explained::Abort(
+            command,
+            unused,
+            Cause {
+                node: x.node,
+                place: x.place,
+                words: x.words,
+                base: x.base,
+                end: x.end,
+                reason: reason(x.place, x.base, x.end),
+                first: x.block,
+            },
+        ),
+        Ended::NoRoom(command, unused) => Explained::NoRoom(command, unused),
+    }
+}
+
+// The answer alone.
+fn answered(e: Explained) -> Answer
+    ensures { λ r. ⌜ answer-of r ≡ answer-told e ⌝ }
+{
+    match e {
+        Explained::Refused(number, place) => Answer::Refused(number, place),
+        Explained::Done(unused) => Answer::Done(unused),
+        Explained::Abort(command, unused, x) => Answer::Abort(command, unused),
+        Explained::NoRoom(command, unused) => Answer::NoRoom(command, unused),
     }
 }
 
@@ -95,12 +157,13 @@ fn run_commands<'a>(
     offsets: &'a Offsets,
     notes: &'a Notes,
     unused: u32,
+    watched: u32,
     values: &mut [u32],
     bases: &mut [u32],
     ends: &mut [u32],
-) -> Answer
-    requires { ⌜ Startable (now t) layout (now first) (now sizes) (now offsets) (now notes) unused (now values) (now bases) (now ends) ⌝ }
-    ensures { λ r. ⌜ Executed (now (t .entry)) (now (values .entry)) (now (bases .entry)) (now (ends .entry)) unused r (now (values .exit)) (now (bases .exit)) (now (ends .exit)) ⌝ }
+) -> Explained
+    requires { ⌜ Startable (now t) layout (now first) (now sizes) (now offsets) (now notes) unused watched (now values) (now bases) (now ends) ⌝ }
+    ensures { λ r. ⌜ Executed (now (t .entry)) (now (values .entry)) (now (bases .entry)) (now (ends .entry)) unused watched r (now (values .exit)) (now (bases .exit)) (now (ends .exit)) ⌝ }
 {
     let fields = layout.fields;
     let pointers = layout.pointers;
@@ -124,6 +187,7 @@ fn run_commands<'a>(
         narrow(section.count),
         &l,
         unused,
+        watched,
         values,
         bases,
         ends,
@@ -131,7 +195,7 @@ fn run_commands<'a>(
     told(e)
 }
 
-// The rest of a call, for a table that passed the check.
+// The rest of a call, for a table that passed the check. The block that will have the word `watched` is looked for.
 fn run_checked<'a>(
     t: &'a [u32],
     layout: Table,
@@ -141,12 +205,13 @@ fn run_checked<'a>(
     notes: &'a Notes,
     inputs: &[u32],
     registers: &[u32],
+    watched: usize,
     values: &mut [u32],
     bases: &mut [u32],
     ends: &mut [u32],
-) -> Answer
-    requires { ⌜ (Program (now t) (now first) (now sizes) (now offsets) (now notes)) × (layout ≡ layout-specs.layout (now t)) ⌝ }
-    ensures { λ r. ⌜ Is (call (now (t .entry)) (now (inputs .entry)) (now (registers .entry)) (now (values .entry)) (now (bases .entry)) (now (ends .entry))) r (now (values .exit)) (now (bases .exit)) (now (ends .exit)) ⌝ }
+) -> Explained
+    requires { ⌜ (Program (now t) (now first) (now sizes) (now offsets) (now notes)) × (layout ≡ layout-specs.layout (now t)) × (Watchable watched (now t) (now inputs) (now registers) (now values) (now bases) (now ends)) ⌝ }
+    ensures { λ r. ⌜ Called watched (now (t .entry)) (now (inputs .entry)) (now (registers .entry)) (now (values .entry)) (now (bases .entry)) (now (ends .entry)) r (now (values .exit)) (now (bases .exit)) (now (ends .exit)) ⌝ }
 {
     let variables = layout.variables;
     if let Verdict::Refused(n, p) = check_call(
@@ -158,7 +223,7 @@ fn run_checked<'a>(
         bases.len(),
         ends.len(),
     ) {
-        return Answer::Refused(n, p);
+        return Explained::Refused(n, p);
     }
     let unused = begin(variables.count, inputs, registers, values, bases, ends);
     run_commands(
@@ -169,6 +234,7 @@ fn run_checked<'a>(
         offsets,
         notes,
         unused,
+        narrow(watched),
         values,
         bases,
         ends,
@@ -189,18 +255,18 @@ pub fn check(t: &[u32]) -> Verdict
     }
 }
 
-// Checks and runs a table, with these inputs and this list of registers. A refused call changes no word of the lists.
-pub fn run(
+// Checks and runs a table, and looks for the block that will have the word `watched`.
+fn call(
     t: &[u32],
     inputs: &[u32],
     registers: &[u32],
+    watched: usize,
     values: &mut [u32],
     bases: &mut [u32],
     ends: &mut [u32],
-) -> Answer
-    ensures called { λ r. ⌜ Is (call (now (t .entry)) (now (inputs .entry)) (now (registers .entry)) (now (values .entry)) (now (bases .entry)) (now (ends .entry))) r (now (values .exit)) (now (bases .exit)) (now (ends .exit)) ⌝ }
-    ensures safe { λ r. ⌜ Spatially-safe (now (t .entry)) (now (inputs .entry)) (now (registers .entry)) (now (values .entry)) (now (bases .entry)) (now (ends .entry)) ⌝ }
-    ensures logged { λ r. ⌜ Log-believable (now (t .entry)) (now (inputs .entry)) (now (registers .entry)) (now (values .entry)) (now (bases .entry)) (now (ends .entry)) ⌝ }
+) -> Explained
+    requires { ⌜ Watchable watched (now t) (now inputs) (now registers) (now values) (now bases) (now ends) ⌝ }
+    ensures { λ r. ⌜ Called watched (now (t .entry)) (now (inputs .entry)) (now (registers .entry)) (now (values .entry)) (now (bases .entry)) (now (ends .entry)) r (now (values .exit)) (now (bases .exit)) (now (ends .exit)) ⌝ }
 {
     let mut first = [0u32; Table::RECORDS + 1];
     let mut sizes = [0u32; Table::RECORDS];
@@ -216,10 +282,98 @@ pub fn run(
             &notes,
             inputs,
             registers,
+            watched,
             values,
             bases,
             ends,
         ),
-        Parsed::Refused(n, p) => Answer::Refused(n, p),
+        Parsed::Refused(n, p) => Explained::Refused(n, p),
+    }
+}
+
+// Checks and runs a table, with these inputs and this list of registers. A refused call changes no word of the lists.
+pub fn run(
+    t: &[u32],
+    inputs: &[u32],
+    registers: &[u32],
+    values: &mut [u32],
+    bases: &mut [u32],
+    ends: &mut [u32],
+) -> Answer
+    ensures called { λ r. ⌜ Is (call (now (t .entry)) (now (inputs .entry)) (now (registers .entry)) (now (values .entry)) (now (bases .entry)) (now (ends .entry))) r (now (values .exit)) (now (bases .exit)) (now (ends .exit)) ⌝ }
+    ensures safe { λ r. ⌜ Spatially-safe (now (t .entry)) (now (inputs .entry)) (now (registers .entry)) (now (values .entry)) (now (bases .entry)) (now (ends .entry)) ⌝ }
+    ensures logged { λ r. ⌜ Log-believable (now (t .entry)) (now (inputs .entry)) (now (registers .entry)) (now (values .entry)) (now (bases .entry)) (now (ends .entry)) ⌝ }
+{
+    // No block has the word after the last.
+    let end = values.len();
+    answered(call(t, inputs, registers, end, values, bases, ends))
+}
+
+// The first word of the variable or register that has word w, which is not 0, with this many variables; or 0.
+fn declared_start(variables: usize, registers: &[u32], w: u32) -> u32
+    requires { ⌜ Whole (now registers) ⌝ }
+    ensures { λ r. ⌜ Declared variables (now (registers .entry)) w r ⌝ }
+{
+    let word = index(w);
+    if word <= variables {
+        return w;
+    }
+    start_of(registers, variables + 1, word)
+}
+
+// The same cause, with this first word.
+fn starting(x: Cause, first: u32) -> Cause
+    ensures { λ r. ⌜ cause-told r ≡ starting-at first (cause-told x) ⌝ }
+{
+    Cause {
+        node: x.node,
+        place: x.place,
+        words: x.words,
+        base: x.base,
+        end: x.end,
+        reason: x.reason,
+        first,
+    }
+}
+
+// Checks and runs a table as `run` does, and tells why it aborted if it did. Which block has the bounds is found by a second run, which watches for
+// their first word.
+pub fn explain(
+    t: &[u32],
+    inputs: &[u32],
+    registers: &[u32],
+    values: &mut [u32],
+    bases: &mut [u32],
+    ends: &mut [u32],
+) -> Explained
+    ensures explained { λ r. ⌜ explained-of r (now (values .exit)) (now (bases .exit)) (now (ends .exit)) ≡ explain (now (t .entry)) (now (inputs .entry)) (now (registers .entry)) (now (values .entry)) (now (bases .entry)) (now (ends .entry)) ⌝ }
+    ensures reasoned { λ r. ⌜ Truly-explained (now (t .entry)) (now (inputs .entry)) (now (registers .entry)) (now (values .entry)) (now (bases .entry)) (now (ends .entry)) ⌝ }
+    ensures safe { λ r. ⌜ Spatially-safe (now (t .entry)) (now (inputs .entry)) (now (registers .entry)) (now (values .entry)) (now (bases .entry)) (now (ends .entry)) ⌝ }
+    ensures logged { λ r. ⌜ Log-believable (now (t .entry)) (now (inputs .entry)) (now (registers .entry)) (now (values .entry)) (now (bases .entry)) (now (ends .entry)) ⌝ }
+{
+    let end = values.len();
+    let mut watched = end;
+    loop {
+        match call(t, inputs, registers, watched, values, bases, ends) {
+            Explained::Refused(number, place) => return Explained::Refused(number, place),
+            Explained::Done(unused) => return Explained::Done(unused),
+            Explained::NoRoom(command, unused) => return Explained::NoRoom(command, unused),
+            Explained::Abort(command, unused, x) => {
+                // The second run tells it.
+                if watched < end {
+                    return Explained::Abort(command, unused, x);
+                }
+                // Bounds that are absent lie nowhere.
+                if x.reason == 1 {
+                    return Explained::Abort(command, unused, x);
+                }
+                let word = x.base;
+                let first = declared_start(inputs.len(), registers, word);
+                if first != 0 {
+                    return Explained::Abort(command, unused, starting(x, first));
+                }
+                watched = index(word);
+            }
+        }
     }
 }

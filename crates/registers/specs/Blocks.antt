@@ -5,6 +5,7 @@ use mathlib.Core.List.{[]}
 use lib.ListN.{length, take, drop}
 use Rattle.semantics.specs.Words.{Words, word}
 use Rattle.semantics.specs.Table.{variables, count}
+use Rattle.semantics.specs.Registers.{register-count, register-length, register-start}
 use Rattle.semantics.specs.Rules.{State}
 use Rattle.semantics.specs.Run.{with-register, registers-below}
 use Rattle.semantics.proofs.Invariant.{Inv}
@@ -58,3 +59,8 @@ pub record All-fit (l : Words) (u : ℕ) (vs bs es : Words) : Type 0 where
   pub alike : Alike (memory vs bs es u) state
   pub inv : Inv (count table variables) (length vs) state
   pub most : length vs ≤ 65536
+
+-- Which register has word w, if the first one begins at word `first`: the first word of that register, or 0 where w is past the last.
+pub data Register-of (l : Words) (first w : ℕ) : ℕ → Type 0 where
+  in-register : (i : ℕ) → i < register-count l → register-start first l i ≤ w → w < register-start first l i + register-length l i → Register-of l first w (register-start first l i)
+  past-all : register-start first l (register-count l) ≤ w → Register-of l first w 0

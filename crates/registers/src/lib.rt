@@ -1,5 +1,5 @@
 // The registers that a call hands in: the check of their list, and the memory that they are at the start of a run.
-ghost use Prim.Native.Nat.{_+_, _≤_};
+ghost use Prim.Native.Nat.{_+_, _≤_, _<_, _^_};
 ghost use mathlib.Core.Path.{_≡_};
 ghost use lib.ListN.{length};
 ghost use Rattle.semantics.specs.Words.{word};
@@ -8,11 +8,12 @@ ghost use Rattle.semantics.specs.Registers.{register-count};
 ghost use Rattle.semantics.specs.Check.{each, extent-fault, names-pointer, name-fault, room-fault, registers-fault};
 ghost use Rattle.semantics.proofs.Registers.{Whole};
 ghost use Rattle.layout.specs.Layout.{verdict-of, Stands};
-ghost use Rattle.registers.specs.Blocks.{Register-set, Registers-set, Fits, All-fit};
+ghost use Rattle.registers.specs.Blocks.{Register-set, Registers-set, Fits, All-fit, Register-of};
 use layout::Section;
 use layout::Table;
 use layout::Verdict;
 use words::index;
+use words::narrow;
 use words::store_all;
 
 // The most registers of a list.
@@ -173,4 +174,23 @@ pub fn set_registers(
         p = register_end(list, p);
     }
     at
+}
+
+// The first word of the register that has word w, if the first register begins at word `first`; 0 where w is past the last.
+pub fn start_of(list: &[u32], first: usize, w: usize) -> u32
+    requires { ⌜ (Whole (now list)) × (first ≤ w) × (w < 2 ^ 32) ⌝ }
+    ensures { λ r. ⌜ Register-of (now (list .entry)) first w r ⌝ }
+{
+    let count = list[0];
+    let mut p = 1;
+    let mut at = first;
+    for i in 0..count {
+        let end = at + index(list[p + 1]);
+        if w < end {
+            return narrow(at);
+        }
+        at = end;
+        p = register_end(list, p);
+    }
+    0
 }

@@ -4,7 +4,7 @@ use mathlib.Core.Path.{_≡_, sym, _∙_}
 use mathlib.Core.Logic.{_⊎_, inl, inr, ⊎-elim}
 use mathlib.Core.List.{List, [], _∷_, _++_, List·Memᴰ, List·Memᴰ·not-nil, List·Memᴰ·cases-cons}
 use native.Mathlib.Omega.{arith}
-use Rattle.semantics.specs.Rules.{Access, Event, loaded, stored, allocated}
+use Rattle.semantics.specs.Rules.{Access, Bounds-check, Event, loaded, stored, allocated, tested}
 use Rattle.semantics.specs.Safety.{Region, variable, block, Permitted, Allowed}
 use Rattle.semantics.specs.Log.{Blocks-apart}
 
@@ -34,6 +34,15 @@ stored-allocated q = let z : _≡_ {A = ℕ} 0 1 = cc in omega arith
 loaded-allocated : {w v n : ℕ} {a : Access} → loaded w a ≡ allocated v n → ⊥
 loaded-allocated q = let z : _≡_ {A = ℕ} 0 1 = cc in omega arith
 
+pub tested-loaded : {x : Bounds-check} {v : ℕ} {b : Access} → tested x ≡ loaded v b → ⊥
+tested-loaded q = let z : _≡_ {A = ℕ} 0 1 = cc in omega arith
+
+pub stored-tested : {x : Bounds-check} {w : ℕ} {a : Access} → stored w a ≡ tested x → ⊥
+stored-tested q = let z : _≡_ {A = ℕ} 0 1 = cc in omega arith
+
+pub tested-allocated : {x : Bounds-check} {v n : ℕ} → tested x ≡ allocated v n → ⊥
+tested-allocated q = let z : _≡_ {A = ℕ} 0 1 = cc in omega arith
+
 -- The event is no block.
 abbrev pub No-block : Event → Type 0
 No-block e = (a n : ℕ) → e ≡ allocated a n → ⊥
@@ -43,6 +52,9 @@ loaded-no-block w a s n q = loaded-allocated q
 
 pub stored-no-block : (w : ℕ) (a : Access) → No-block (stored w a)
 stored-no-block w a s n q = stored-allocated q
+
+pub tested-no-block : (x : Bounds-check) → No-block (tested x)
+tested-no-block x s n q = tested-allocated q
 
 -- ---- what is allowed, event by event
 
@@ -86,6 +98,9 @@ module _ {vars : ℕ} where
   pub alloc-allowed : {s n : ℕ} {log : List Event} → Allowed vars log → Allowed vars (allocated s n ∷ log)
   alloc-allowed = one-allowed (λ w a q. absurd (loaded-allocated (sym q))) (λ w a q. absurd (stored-allocated (sym q)))
 
+  pub test-allowed : {x : Bounds-check} {log : List Event} → Allowed vars log → Allowed vars (tested x ∷ log)
+  test-allowed = one-allowed (λ w a q. absurd (tested-loaded q)) (λ w a q. absurd (stored-tested (sym q)))
+
 -- ---- blocks
 
 -- The blocks of a log lie one after the other above the variables, and the newest ends at U.
@@ -94,7 +109,7 @@ pub data Stacked (vars : ℕ) : List Event → ℕ → Type 0 where
   beside : {e : Event} {log : List Event} {u : ℕ} → No-block e → Stacked vars log u → Stacked vars (e ∷ log) u
   alloc : {n : ℕ} {log : List Event} {u : ℕ} → 0 < n → Stacked vars log u → Stacked vars (allocated u n ∷ log) (u + n)
 
-stacked-low : {vars u : ℕ} {log : List Event} → Stacked vars log u → vars < u
+pub stacked-low : {vars u : ℕ} {log : List Event} → Stacked vars log u → vars < u
 stacked-low none = omega arith
 stacked-low (beside apart st) = stacked-low st
 stacked-low (alloc some st) = omega (arith, stacked-low st)

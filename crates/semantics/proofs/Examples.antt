@@ -1,5 +1,5 @@
 -- Each table of examples computes to what it says: those that document 01 prints and that requests 1 and 2 ask for (specs/Examples.antt), and
--- those that hold each sentence (specs/RefusalExamples.antt, CallExamples.antt, RunExamples.antt).
+-- those that hold each sentence (specs/RefusalExamples.antt, CallExamples.antt, RunExamples.antt, TreeExamples.antt, ExplainExamples.antt).
 use mathlib.Core.Path.{_≡_, refl}
 use mathlib.Core.List.{[], _∷_, map}
 use Rattle.semantics.specs.Words.{zeroed, sum-below, any-below, seen-before, least-below, grow}
@@ -9,12 +9,14 @@ use Rattle.semantics.specs.Check.{_or-else_, require, each, section-faul
 use Rattle.semantics.specs.Syntax.{step-of, tree-rule, trees-below, tree-of, place-of, value-of}
 use Rattle.semantics.specs.Rules.{in-bounds, checked, deref-step, field-step, touchable, read-step, malloc-step, place-at, assign-step, assign}
 use Rattle.semantics.specs.Run.{cleared, with-register, registers-below, begin, command, commands-below, run, call}
+use Rattle.semantics.specs.Explain.{without-bounds, reason-of, block-start, first-word, newest-cause, explain}
 use Rattle.semantics.specs.ExampleTables.{judged, answered, Example, observed}
 use Rattle.semantics.specs.Examples.{verdicts, refusals, runs, refused-lists, register-runs, record-runs}
 use Rattle.semantics.specs.RefusalExamples.{sections, declarations, operands, node-types, commands-and-uses}
 use Rattle.semantics.specs.CallExamples.{arguments, register-lists, unequal-lists}
 use Rattle.semantics.specs.RunExamples.{memory-runs, order-runs, place-runs, value-runs, malloc-runs, touched, touches}
-use Rattle.semantics.specs.TreeExamples.{every-kind, roots, trees, small, worked, values, registered, failing, failures, wild, wild-runs, measured, depths}
+use Rattle.semantics.specs.ExplainExamples.{Telling, tell, reasons, nodes-told, first-words, explained, whole-calls, logged, logs, reasoned, bare-checks, some-words, starts, at-ending, endings, at-endings}
+use Rattle.semantics.specs.TreeExamples.{every-kind, roots, trees, small, worked, values, registered, wild, wild-runs, measured, depths}
 
 -- To unfold this is to unfold every definition that a call comes down to.
 computed : Example → Example
@@ -117,10 +119,6 @@ pub registers-are-set-so : with-register 1 0 [] small ∷ with-register 1 1 (70 
 unfolding computed registered
 registers-are-set-so = refl
 
-pub checks-fail-so : map failing failures ≡ failures
-unfolding computed failing failures
-checks-fail-so = refl
-
 pub values-are-worked-out-so : map worked values ≡ values
 unfolding computed worked values
 values-are-worked-out-so = refl
@@ -132,3 +130,42 @@ wild-runs-end-so = refl
 pub depths-are-measured-so : map measured depths ≡ depths
 unfolding computed measured depths
 depths-are-measured-so = refl
+
+-- ---- Explanations
+
+-- To unfold this is to unfold every definition that an explanation comes down to.
+accounted : Telling → Telling
+unfolding computed tell without-bounds reason-of block-start first-word newest-cause explain
+accounted c = tell c
+
+pub reasons-are-told-so : map tell reasons ≡ reasons
+unfolding accounted computed reasons
+reasons-are-told-so = refl
+
+pub nodes-are-told-so : map tell nodes-told ≡ nodes-told
+unfolding accounted computed nodes-told
+nodes-are-told-so = refl
+
+pub first-words-are-told-so : map tell first-words ≡ first-words
+unfolding accounted computed first-words
+first-words-are-told-so = refl
+
+pub whole-calls-are-explained-so : map explained whole-calls ≡ whole-calls
+unfolding accounted computed explained whole-calls
+whole-calls-are-explained-so = refl
+
+pub events-are-logged-so : map logged logs ≡ logs
+unfolding computed logged logs
+events-are-logged-so = refl
+
+pub bare-checks-are-reasoned-so : map reasoned bare-checks ≡ bare-checks
+unfolding accounted reasoned bare-checks
+bare-checks-are-reasoned-so = refl
+
+pub blocks-start-so : map starts some-words ≡ 0 ∷ 0 ∷ 10 ∷ 10 ∷ 0 ∷ 0 ∷ 20 ∷ 20 ∷ 0 ∷ []
+unfolding accounted starts
+blocks-start-so = refl
+
+pub endings-are-told-so : map at-ending endings ≡ at-endings
+unfolding accounted at-ending
+endings-are-told-so = refl

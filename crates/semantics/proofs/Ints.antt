@@ -10,7 +10,7 @@ use Rattle.semantics.specs.Words.{Words, word, if_then_else_}
 use Rattle.semantics.specs.Table.{nodes, count, is-pointer, Kind, variable, deref, field, constant, sum, read, address, cast, size, malloc, unknown, value, sort-of, node-kind, node-a, node-b, type-by-kind, type-rule, types-below, node-type}
 use Rattle.semantics.specs.Check.{same-sort, is-child}
 use Rattle.semantics.specs.Syntax.{Place, Value, Number, Sum, Read, Cast, senseless, as-value, tree-by-kind, tree-rule, trees-below, tree-of, value-of}
-use Rattle.semantics.specs.Rules.{Datum, unbounded, Location, loaded, Shortfall, State, noted, Outcome, ok, fails, no-room, no-rule, bind, touchable, contents, read-step, sum-step, cast-step, place-at, value-at}
+use Rattle.semantics.specs.Rules.{Datum, unbounded, Location, loaded, Bounds-check, State, noted, Outcome, ok, fails, no-room, no-rule, bind, touchable, contents, read-step, sum-step, cast-step, place-at, value-at}
 use Rattle.semantics.proofs.Passed.{require-passes, Passed}
 use Rattle.semantics.proofs.Trees.{Node-ok, node-ok, is-child-true, types-at, trees-at}
 
@@ -19,7 +19,7 @@ use Rattle.semantics.proofs.Trees.{Node-ok, node-ok, is-child-true, typ
 -- Where there is a datum, it is a value without bounds.
 data Unbounded : Outcome Datum → Type 0 where
   unbounded-ok : {v : ℕ} {s : State} → Unbounded (ok (unbounded v) s)
-  unbounded-fails : {x : Shortfall} {s : State} → Unbounded (fails x s)
+  unbounded-fails : {x : Bounds-check} {s : State} → Unbounded (fails x s)
   unbounded-no-room : {s : State} → Unbounded (no-room s)
   unbounded-no-rule : {s : State} → Unbounded (no-rule s)
 

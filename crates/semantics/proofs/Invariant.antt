@@ -5,7 +5,7 @@ use mathlib.Core.List.{List, List·Memᴰ}
 use native.Mathlib.Omega.{arith}
 use lib.ListN.{length}
 use Rattle.semantics.specs.Words.{word}
-use Rattle.semantics.specs.Rules.{Datum, Access, Location, Event, allocated, Shortfall, State, Outcome, ok, fails, no-room, bind}
+use Rattle.semantics.specs.Rules.{Datum, Access, Location, Bounds-check, Event, allocated, State, Outcome, ok, fails, no-room, bind}
 use Rattle.semantics.specs.Safety.{Region, variable, block, Held, Permitted, by-name, by-pointer, Allowed, Sound, absent, held}
 use Rattle.semantics.specs.Log.{Unwritten, Same-word}
 use Rattle.semantics.proofs.Blocks.{Stacked, region-used}
@@ -78,16 +78,16 @@ pub record Location-ok (vars : ℕ) (l : Location) (s : State) : Type 0 where
 pub location-later : {vars : ℕ} {l : Location} {s s′ : State} → Within (s .log) (s′ .log) → Location-ok vars l s → Location-ok vars l s′
 location-later more h = record { permitted = permitted-later more (h .permitted); bounds = held-later more (h .bounds) }
 
--- An outcome from state s₀ on: the invariant holds, the result is as P says; and it isn't no-rule.
+-- An outcome from state s₀ on: the invariant holds, the result is as P says, bounds that a check fails by are absent or held; and it isn't no-rule.
 pub data Good (vars len : ℕ) (s₀ : State) {A : Type 0} (P : A → State → Type 0) : Outcome A → Type 0 where
   good-ok : {a : A} {s : State} → Inv vars len s → Later s₀ s → P a s → Good vars len s₀ P (ok a s)
-  good-fails : {x : Shortfall} {s : State} → Inv vars len s → Later s₀ s → Good vars len s₀ P (fails x s)
+  good-fails : {x : Bounds-check} {s : State} → Inv vars len s → Later s₀ s → Sound vars (s .log) (x .base) (x .end) → Good vars len s₀ P (fails x s)
   good-no-room : {s : State} → Inv vars len s → Later s₀ s → Good vars len s₀ P (no-room s)
 
 good-from : {vars len : ℕ} {s₀ s₁ : State} {A : Type 0} {P : A → State → Type 0} {m : Outcome A}
     → Later s₀ s₁ → Good vars len s₁ P m → Good vars len s₀ P m
 good-from past (good-ok inv l p) = good-ok inv (later-trans past l) p
-good-from past (good-fails inv l) = good-fails inv (later-trans past l)
+good-from past (good-fails inv l sound) = good-fails inv (later-trans past l) sound
 good-from past (good-no-room inv l) = good-no-room inv (later-trans past l)
 
 pub bind-good : {vars len : ℕ} {s₀ : State} {A B : Type 0} {P : A → State → Type 0} {Q : B → State → Type 0} {m : Outcome A} {f : A → State → Outcome B}
@@ -95,5 +95,5 @@ pub bind-good : {vars len : ℕ} {s₀ : State} {A B : Type 0} {P : A → State 
     → ((a : A) (s : State) → Inv vars len s → Later s₀ s → P a s → Good vars len s Q (f a s))
     → Good vars len s₀ Q (bind m f)
 bind-good (good-ok inv l p) k = good-from l (k _ _ inv l p)
-bind-good (good-fails inv l) k = good-fails inv l
+bind-good (good-fails inv l sound) k = good-fails inv l sound
 bind-good (good-no-room inv l) k = good-no-room inv l

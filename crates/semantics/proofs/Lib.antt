@@ -6,7 +6,9 @@ pub mod Passed
 pub mod Sizes
 pub mod Blocks
 pub mod Places
+pub mod Fails
 pub mod Invariant
+pub mod Checks
 pub mod Reading
 pub mod Steps
 pub mod Registers
@@ -15,3 +17,5 @@ pub mod Equations
 pub mod Ints
 pub mod Safety
 pub mod Depth
+pub mod Starts
+pub mod Explain

@@ -10,9 +10,9 @@ use lib.Dec.{leb, eqb}
 use lib.ListN.{length}
 use Rattle.semantics.specs.Words.{if_then_else_}
 use Rattle.semantics.specs.Syntax.{Place, Variable, Deref, Field, NoPlace, Value, Number, Sum, Read, Address, Cast, Malloc, NoValue}
-use Rattle.semantics.specs.Rules.{Datum, unbounded, block-pointer, Location, Event, stored, State, noted, Shortfall, Outcome, ok, fails, no-room, no-rule, bind, in-bounds, checked, deref-step, field-step, touchable, contents, read-step, cast-step, with-block, malloc-step, place-at, value-at, with-datum, assign-step, assign}
-use Rattle.semantics.specs.Log.{Comes-by, variable-place, deref-place, field-place, Word-read, pointer-read, int-read, Allocates, no-words, new-block, Gives, number-value, sum-value, read-value, address-value, cast-value, malloc-value, Word-stored, pointer-stored, int-stored, Assigns, Clear-word, Same-word}
-use Rattle.semantics.proofs.Tests.{in-bounds-true}
+use Rattle.semantics.specs.Rules.{Datum, unbounded, block-pointer, Location, Bounds-check, Event, stored, tested, State, noted, Outcome, ok, fails, no-room, no-rule, bind, check-of, checked, deref-step, field-step, touchable, contents, read-step, cast-step, with-block, malloc-step, place-at, value-at, with-datum, assign-step, assign}
+use Rattle.semantics.specs.Log.{Noted, Comes-by, variable-place, deref-place, field-place, Word-read, pointer-read, int-read, Allocates, no-words, new-block, Gives, number-value, sum-value, read-value, address-value, cast-value, malloc-value, Word-stored, pointer-stored, int-stored, Assigns, Clear-word, Same-word}
+use Rattle.semantics.proofs.Tests.{Check-made, check-passed, check-missed, check-made}
 use Rattle.semantics.proofs.Lists.{zeroed-inside, zeroed-outside}
 
 -- ---- outcomes that are ok
@@ -27,7 +27,7 @@ module _ {A : Type 0} where
   in-state : {o : Outcome A} {a : A} {s s′ : State} → o ≡ ok a s → s ≡ s′ → o ≡ ok a s′
   in-state {a = a} e q = e ∙ ap (ok a) q
 
-  fails-not : {x : Shortfall} {a : A} {s s′ : State} → fails x s ≡ ok a s′ → ⊥
+  fails-not : {x : Bounds-check} {a : A} {s s′ : State} → fails x s ≡ ok a s′ → ⊥
   fails-not e = let z : _≡_ {A = ℕ} 0 1 = cc in omega arith
 
   no-room-not : {a : A} {s s′ : State} → no-room s ≡ ok a s′ → ⊥
@@ -56,26 +56,28 @@ both (no-rule s) f e = absurd (no-rule-not e)
 
 -- ---- places
 
-record Checked (p : Datum) (w k : ℕ) (l : Location) (s : State) (l′ : Location) (s′ : State) : Type 0 where
+record Checked (n : ℕ) (p : Datum) (w k : ℕ) (l : Location) (s : State) (l′ : Location) (s′ : State) : Type 0 where
   place : l ≡ l′
-  state : s ≡ s′
+  state : noted (tested (check-of n p w k)) s ≡ s′
   from : p .base ≤ w
   upto : w + k ≤ p .end
 
-checked-ok : (n : ℕ) (p : Datum) (w k : ℕ) (l : Location) (s : State) {l′ : Location} {s′ : State} → checked n p w k l s ≡ ok l′ s′ → Checked p w k l s l′ s′
-unfolding checked
-checked-ok n p w k l s {l′} {s′} e = go (in-bounds p w k) _ refl e
+checked-ok : (n : ℕ) (p : Datum) (w k : ℕ) (l : Location) (s : State) {l′ : Location} {s′ : State} → checked n p w k l s ≡ ok l′ s′ → Checked n p w k l s l′ s′
+checked-ok n p w k l s {l′} {s′} e = go (check-made n p w k l s) e
   where
-    go : (b : Bool) (x : Shortfall) → in-bounds p w k ≡ b → (if b then ok l s else fails x s) ≡ ok l′ s′ → Checked p w k l s l′ s′
-    go true x t q = record { place = same-result q; state = same-state q; from = in-bounds-true p w k t .0; upto = in-bounds-true p w k t .1 }
-    go false x t q = absurd (fails-not q)
+    go : {o : Outcome Location} → Check-made n p w k l s o → o ≡ ok l′ s′ → Checked n p w k l s l′ s′
+    go (check-passed from upto) q = record { place = same-result q; state = same-state q; from = from; upto = upto }
+    go (check-missed miss) q = absurd (fails-not q)
+
+pub one-event : (e : Event) (s : State) → Noted e s (noted e s)
+one-event e s = record { values = refl; bases = refl; ends = refl; unused = refl; log = refl }
 
 deref-comes : {n : ℕ} (v : Value) (s : State) {l : Location} {s′ : State} → Both (value-at v s) (deref-step n) l s′ → Comes-by s l s′ (Deref n v)
 unfolding deref-step
 deref-comes {n} v s b =
     let c = checked-ok n (b .a) (b .a .value) 1 _ (b .s₁) (b .second) in
     rw (← (c .place), ← (c .state))
-    (deref-place (record { pointer = b .a; child = b .first; access = refl; at = omega arith; from = c .from; upto = c .upto }) refl refl)
+    (deref-place (record { pointer = b .a; s₁ = b .s₁; child = b .first; access = refl; at = omega arith; from = c .from; upto = c .upto; event = one-event _ (b .s₁) }) refl refl)
 
 field-comes : {n offset k : ℕ} (v : Value) (s : State) {l : Location} {s′ : State} → Both (value-at v s) (field-step n offset k) l s′
     → Comes-by s l s′ (Field n offset k v)
@@ -83,7 +85,7 @@ unfolding field-step
 field-comes {n} {offset} {k} v s b =
     let c = checked-ok n (b .a) (b .a .value + offset) k _ (b .s₁) (b .second) in
     rw (← (c .place), ← (c .state))
-    (field-place (record { pointer = b .a; child = b .first; access = refl; at = refl; from = c .from; upto = c .upto }) refl refl)
+    (field-place (record { pointer = b .a; s₁ = b .s₁; child = b .first; access = refl; at = refl; from = c .from; upto = c .upto; event = one-event _ (b .s₁) }) refl refl)
 
 -- Every place is come by as its tree says: a variable is named, and at a deref or a field the pointer logged is the child's value.
 pub places-are-come-by : (p : Place) (s : State) (l : Location) (s′ : State) → place-at p s ≡ ok l s′ → Comes-by s l s′ p
@@ -105,7 +107,7 @@ unfolding read-step
 read-gives pointer p s b =
     let e = touched (touchable (b .s₁) (b .a .at)) _ (b .s₁) _ (b .second) in
     rw (← (same-result e), ← (same-state e))
-    (read-value (b .a) (b .s₁) (b .first) (word-read pointer (b .s₁) (b .a .at)) (record { values = refl; bases = refl; ends = refl; unused = refl; log = refl }))
+    (read-value (b .a) (b .s₁) (b .first) (word-read pointer (b .s₁) (b .a .at)) (one-event _ (b .s₁)))
 
 cast-state : (keeps : Bool) (x : Datum) (s : State) {d : Datum} {s′ : State} → cast-step keeps x s ≡ ok d s′ → s ≡ s′
 cast-state true x s e = same-state e

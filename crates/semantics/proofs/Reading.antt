@@ -14,10 +14,10 @@ use Rattle.semantics.specs.Words.{Words, word, zeroed, if_then_else_}
 use Rattle.semantics.specs.Registers.{register-count, register-variable, register-length, register-words}
 use Rattle.semantics.specs.Check.{command-place, command-value}
 use Rattle.semantics.specs.Syntax.{Place, Variable, Deref, Field, NoPlace, Value, Number, Sum, Read, Address, Cast, Malloc, NoValue, place-of, value-of}
-use Rattle.semantics.specs.Rules.{Datum, unbounded, block-pointer, Access, Location, variable-location, Event, loaded, stored, allocated, State, noted, Shortfall, Outcome, ok, fails, no-room, no-rule, bind, in-bounds, checked, deref-step, field-step, touchable, contents, read-step, address-step, sum-step, cast-step, with-block, malloc-step, place-at, value-at, with-datum, assign-step, assign}
+use Rattle.semantics.specs.Rules.{Datum, unbounded, block-pointer, Access, Location, variable-location, Bounds-check, Event, loaded, stored, State, noted, Outcome, ok, fails, no-room, no-rule, bind, in-bounds, checked, deref-step, field-step, touchable, contents, read-step, address-step, sum-step, cast-step, with-block, malloc-step, place-at, value-at, with-datum, assign-step, assign}
 use Rattle.semantics.specs.Run.{cleared, with-register, registers-below, begin, command, Ending, done, abort, out-of-memory, stuck, Run, after-command, then-command, commands-below}
 use Rattle.semantics.specs.Log.{Same-word, Unwritten, Alike, Ends-alike}
-use Rattle.semantics.proofs.Blocks.{stored-loaded, stored-allocated}
+use Rattle.semantics.proofs.Blocks.{stored-loaded, stored-allocated, stored-tested}
 use Rattle.semantics.proofs.Invariant.{Within}
 use Rattle.semantics.proofs.Places.{log-kept}
 
@@ -101,7 +101,7 @@ module _ (s₀ s₀′ : State) (final : List Event) (read : (w : ℕ) (a : Acce
   -- The same outcome, with states that are twins.
   data Twins {A : Type 0} : Outcome A → Outcome A → Type 0 where
     twin-ok : {a : A} {s s′ : State} → Twin s s′ → Twins (ok a s) (ok a s′)
-    twin-fails : {x : Shortfall} {s s′ : State} → Twin s s′ → Twins (fails x s) (fails x s′)
+    twin-fails : {x : Bounds-check} {s s′ : State} → Twin s s′ → Twins (fails x s) (fails x s′)
     twin-no-room : {s s′ : State} → Twin s s′ → Twins (no-room s) (no-room s′)
     twin-no-rule : {s s′ : State} → Twin s s′ → Twins (no-rule s) (no-rule s′)
 
@@ -147,7 +147,7 @@ module _ (s₀ s₀′ : State) (final : List Event) (read : (w : ℕ) (a : Acce
   given : {A : Type 0} (a : A) → Steady (ok a)
   given a = answer (λ s. a) (λ s s′ t. refl)
 
-  failing : {A : Type 0} (x : Shortfall) → Steady {A = A} (fails x)
+  failing : {A : Type 0} (x : Bounds-check) → Steady {A = A} (fails x)
   unfolding log-of
   failing x = record { grows = λ s e h. h; twins = λ s s′ t inside. twin-fails t }
 
@@ -159,11 +159,33 @@ module _ (s₀ s₀′ : State) (final : List Event) (read : (w : ℕ) (a : Acce
   unfolding log-of
   ruleless = record { grows = λ s e h. h; twins = λ s s′ t inside. twin-no-rule t }
 
+  -- ---- an event that is no store
+
+  -- An event that is no store leaves the words known as they were.
+  known-before : {e : Event} {log : List Event} → ((v : ℕ) (a : Access) → stored v a ≡ e → ⊥) → (w : ℕ) → Known (e ∷ log) w → Known log w
+  known-before other w (at-first h) = at-first h
+  known-before {log = log} other w (written {a} m) = ⊎-elim {C = Known log w} (λ q. absurd (other w a q)) (λ k. written k) (List·Memᴰ·cases-cons m)
+
+  noted-twin : (e : Event) → ((v : ℕ) (a : Access) → stored v a ≡ e → ⊥) → (s s′ : State) → Twin s s′ → Twin (noted e s) (noted e s′)
+  noted-twin e other s s′ t =
+      record {
+        unused = t .unused;
+        same-log = ap (λ log. e ∷ log) (t .same-log);
+        values = agree-weaker (known-before other) (t .values);
+        bases = t .bases;
+        ends = t .ends;
+      }
+
+  after-event : {A : Type 0} {f : State → Outcome A} (e : Event) → ((v : ℕ) (a : Access) → stored v a ≡ e → ⊥) → Steady f → Steady (λ s. f (noted e s))
+  after-event e other h =
+      record { grows = λ s x m. h .grows (noted e s) x (List·Memᴰ·tail m); twins = λ s s′ t inside. h .twins (noted e s) (noted e s′) (noted-twin e other s s′ t) inside }
+
   -- ---- places
 
   checked-steady : (n : ℕ) (p : Datum) (w k : ℕ) (l : Location) → Steady (checked n p w k l)
   unfolding checked
-  checked-steady n p w k l = choice (λ s. in-bounds p w k) (λ s s′ t. refl) (given l) (failing _)
+  checked-steady n p w k l =
+      choice (λ s. in-bounds p w k) (λ s s′ t. refl) (after-event _ (λ v a. stored-tested) (given l)) (after-event _ (λ v a. stored-tested) (failing _))
 
   deref-steady : (n : ℕ) (p : Datum) → Steady (deref-step n p)
   unfolding deref-step
@@ -179,25 +201,10 @@ module _ (s₀ s₀′ : State) (final : List Event) (read : (w : ℕ) (a : Acce
 
   -- ---- values
 
-  -- An event that is no store leaves the words known as they were.
-  known-before : {e : Event} {log : List Event} → ((v : ℕ) (a : Access) → stored v a ≡ e → ⊥) → (w : ℕ) → Known (e ∷ log) w → Known log w
-  known-before other w (at-first h) = at-first h
-  known-before {log = log} other w (written {a} m) = ⊎-elim {C = Known log w} (λ q. absurd (other w a q)) (λ k. written k) (List·Memᴰ·cases-cons m)
-
   -- A word read is logged, so it is alike.
   same-contents : (pointer : Bool) (w : ℕ) (s s′ : State) → Twin s s′ → Same-word w s₀ s₀′ → contents pointer s w ≡ contents pointer s′ w
   same-contents true w s s′ t h = rw (t .values .same w (at-first h), t .bases .same w h, t .ends .same w h) refl
   same-contents false w s s′ t h = rw (t .values .same w (at-first h)) refl
-
-  loaded-twin : (w : ℕ) (a : Access) (s s′ : State) → Twin s s′ → Twin (noted (loaded w a) s) (noted (loaded w a) s′)
-  loaded-twin w a s s′ t =
-      record {
-        unused = t .unused;
-        same-log = ap (λ log. loaded w a ∷ log) (t .same-log);
-        values = agree-weaker (known-before (λ v b. stored-loaded)) (t .values);
-        bases = t .bases;
-        ends = t .ends;
-      }
 
   load-steady : (pointer : Bool) (w : ℕ) (a : Access) → Steady (λ s. ok (contents pointer s w) (noted (loaded w a) s))
   unfolding log-of
@@ -205,7 +212,7 @@ module _ (s₀ s₀′ : State) (final : List Event) (read : (w : ℕ) (a : Acce
       record {
         grows = λ s e h. List·Memᴰ·tail h;
         twins = λ s s′ t inside.
-            rw (← (same-contents pointer w s s′ t (read w a (inside (loaded w a) (List·Memᴰ·head refl))))) (twin-ok (loaded-twin w a s s′ t));
+            rw (← (same-contents pointer w s s′ t (read w a (inside (loaded w a) (List·Memᴰ·head refl))))) (twin-ok (noted-twin (loaded w a) (λ v b. stored-loaded) s s′ t));
       }
 
   read-steady : (pointer : Bool) (l : Location) → Steady (read-step pointer l)

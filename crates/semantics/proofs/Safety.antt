@@ -105,7 +105,7 @@ not-stuck-done c e = let z : _≡_ {A = ℕ} 0 1 = cc in omega arith
 
 after-command-ok : {vars len : ℕ} {s₀ s : State} (c : ℕ) {o : Outcome (Unit {0})} → Later s₀ s → Good vars len s Any o → Running vars len s₀ (after-command c o)
 after-command-ok c past (good-ok inv l x) = record { has-rules = not-stuck-done; inv = inv; past = later-trans past l }
-after-command-ok c past (good-fails inv l) =
+after-command-ok c past (good-fails inv l sound) =
     record { has-rules = λ d e. let z : _≡_ {A = ℕ} 0 1 = cc in omega arith; inv = inv; past = later-trans past l }
 after-command-ok c past (good-no-room inv l) =
     record { has-rules = λ d e. let z : _≡_ {A = ℕ} 0 1 = cc in omega arith; inv = inv; past = later-trans past l }
@@ -124,7 +124,7 @@ commands-ok {t} {len} table s inv (suc c) h = go (commands-below t c s .ending) 
 
 -- ---- the theorems
 
-begun-runs : {t inputs registers : Words} {len bases ends : ℕ} → Begun t inputs registers len bases ends → Running (count t variables) len (begin t inputs registers len) (run t inputs registers len)
+pub begun-runs : {t inputs registers : Words} {len bases ends : ℕ} → Begun t inputs registers len bases ends → Running (count t variables) len (begin t inputs registers len) (run t inputs registers len)
 unfolding run
 begun-runs {t} {inputs} {registers} {len} b = commands-ok (b .table) (begin t inputs registers len) (begin-inv b) (count t commands) (omega arith)
 

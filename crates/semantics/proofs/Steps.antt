@@ -11,12 +11,12 @@ use lib.ListN.{length, set, length-set}
 use lib.Seq.{getD-set-same, getD-set-other}
 use Rattle.semantics.specs.Words.{Words, word, if_then_else_}
 use Rattle.semantics.specs.Syntax.{Place, Variable, Deref, Field, Value, Number, Sum, Read, Address, Cast, Malloc}
-use Rattle.semantics.specs.Rules.{Datum, unbounded, block-pointer, Access, Location, Event, loaded, stored, allocated, Shortfall, State, noted, with-values, ok, fails, no-room, in-bounds, checked, deref-step, field-step, touchable, contents, read-step, cast-step, with-block, malloc-step, place-at, value-at, with-datum, assign-step, assign}
+use Rattle.semantics.specs.Rules.{Datum, unbounded, block-pointer, Access, Location, Event, loaded, stored, allocated, tested, State, noted, with-values, Outcome, ok, no-room, check-of, checked, deref-step, field-step, touchable, contents, read-step, cast-step, with-block, malloc-step, place-at, value-at, with-datum, assign-step, assign}
 use Rattle.semantics.specs.Safety.{variable, block, Held, Permitted, by-name, by-pointer, Allowed, Sound, absent, held}
 use Rattle.semantics.specs.Log.{Unwritten, Same-word}
-use Rattle.semantics.proofs.Tests.{in-bounds-true, and-both}
+use Rattle.semantics.proofs.Tests.{and-both, Check-made, check-passed, check-missed, check-made}
 use Rattle.semantics.proofs.Lists.{zeroed-clear}
-use Rattle.semantics.proofs.Blocks.{No-block, loaded-no-block, stored-no-block, beside, alloc, load-allowed, store-allowed, alloc-allowed}
+use Rattle.semantics.proofs.Blocks.{No-block, loaded-no-block, stored-no-block, tested-no-block, beside, alloc, load-allowed, store-allowed, alloc-allowed, test-allowed}
 use Rattle.semantics.proofs.Places.{log-kept}
 use Rattle.semantics.proofs.Invariant.{Inv, Within, Later, now, sound-later, permitted-used, Datum-ok, Location-ok, location-later, Good, good-ok, good-fails, good-no-room, bind-good}
 
@@ -149,19 +149,22 @@ sound-held : {vars b e : ℕ} {l : List Event} → Sound vars l b e → 0 < e �
 sound-held (absent p q) h = absurd (omega arith)
 sound-held (held x) h = x
 
-checked-good : {vars len : ℕ} {s : State} (n : ℕ) (p : Datum) (w k : ℕ) (l : Location) → Inv vars len s
+checked-good : {vars len : ℕ} {s : State} (n : ℕ) (p : Datum) (w k : ℕ) (l : Location) → Inv vars len s → Datum-ok vars p s
     → (p .base ≤ w → w + k ≤ p .end → Location-ok vars l s) → Good vars len s (Location-ok vars) (checked n p w k l s)
-unfolding checked
-checked-good {vars} {len} {s} n p w k l inv found = go (in-bounds p w k) _ refl
+checked-good {vars} {len} {s} n p w k l inv good found = go (check-made n p w k l s)
   where
-    go : (b : Bool) (x : Shortfall) → in-bounds p w k ≡ b → Good vars len s (Location-ok vars) (if b then ok l s else fails x s)
-    go true x e = good-ok inv now (found (in-bounds-true p w k e .0) (in-bounds-true p w k e .1))
-    go false x e = good-fails inv now
+    e : Event
+    e = tested (check-of n p w k)
+
+    go : {o : Outcome Location} → Check-made n p w k l s o → Good vars len s (Location-ok vars) o
+    go (check-passed from upto) =
+        good-ok (no-block e (tested-no-block _) inv (test-allowed (inv .allowed))) (noted-later e) (location-later (tail e) (found from upto))
+    go (check-missed miss) = good-fails (no-block e (tested-no-block _) inv (test-allowed (inv .allowed))) (noted-later e) (sound-later (tail e) (good .sound))
 
 deref-good : {vars len : ℕ} (n : ℕ) (p : Datum) (s : State) → Inv vars len s → Datum-ok vars p s → Good vars len s (Location-ok vars) (deref-step n p s)
 unfolding deref-step
 deref-good n p s inv good =
-    checked-good n p (p .value) 1 _ inv
+    checked-good n p (p .value) 1 _ inv good
     (λ from upto.
     let h = sound-held (good .sound) (omega arith) in
     record { permitted = by-pointer from upto h; bounds = h })
@@ -170,7 +173,7 @@ field-good : {vars len : ℕ} (n offset k : ℕ) (p : Datum) (s : State) → 0 <
     → Good vars len s (Location-ok vars) (field-step n offset k p s)
 unfolding field-step
 field-good n offset k p s some inv good =
-    checked-good n p (p .value + offset) k _ inv
+    checked-good n p (p .value + offset) k _ inv good
     (λ from upto.
     let h = sound-held (good .sound) (omega arith) in
     record {

@@ -1,5 +1,5 @@
 -- Document 01 as definitions, in its order: the table, what is turned away, syntax trees, the steps, a whole call, the fence rule. The
--- registers that request 1 adds stand after the table.
+-- registers that request 1 adds stand after the table; the explanations that request 4 asks for, after the fence rule and the log.
 pub mod Words
 pub mod Table
 pub mod Registers
@@ -9,9 +9,11 @@ pub mod Rules
 pub mod Run
 pub mod Safety
 pub mod Log
+pub mod Explain
 pub mod ExampleTables
 pub mod Examples
 pub mod RefusalExamples
 pub mod CallExamples
 pub mod RunExamples
 pub mod TreeExamples
+pub mod ExplainExamples

@@ -1,5 +1,5 @@
 -- The log can be believed. Spatial safety speaks of the log, so these statements say what a log has: every word written, every word that sways
--- the run, and blocks that lie apart; and how each step comes by its place and its event. Those about a call are of its run when it is begun.
+-- the run, and blocks that lie apart; how each step comes by its place and its event; and by which check it fails. Those about a call are of its run when it is begun.
 use Prim.Native.Nat.{ℕ, _+_, _≤_, _<_}
 use mathlib.Core.Bool.{Bool, true, false}
 use mathlib.Core.Path.{_≡_}
@@ -10,7 +10,7 @@ use Rattle.semantics.specs.Words.{Words, word}
 use Rattle.semantics.specs.Table.{variables, commands, count}
 use Rattle.semantics.specs.Check.{passes, call-fault}
 use Rattle.semantics.specs.Syntax.{Place, Variable, Deref, Field, Value, Number, Sum, Read, Address, Cast, Malloc}
-use Rattle.semantics.specs.Rules.{Datum, unbounded, block-pointer, Access, named, followed, Location, Event, loaded, stored, allocated, State, ok, place-at, value-at}
+use Rattle.semantics.specs.Rules.{Datum, unbounded, block-pointer, Access, named, followed, Location, Bounds-check, Event, loaded, stored, allocated, tested, State, ok, fails, check-of, place-at, value-at}
 use Rattle.semantics.specs.Run.{begin, Run, commands-below, run}
 use Rattle.semantics.specs.Safety.{Held}
 
@@ -58,25 +58,6 @@ pub record Ends-alike (s s′ : State) (r r′ : Run) : Type 0 where
 
 -- ---- How a place is come by, and the one event of a step
 
--- A place that a pointer was followed to: "its child a is the pointer followed, and the bounds are those that this value had when the place was
--- worked out." It is `offset` words past the pointer's value, and the `words` words from there on lie within the pointer's bounds.
-pub record Followed-to (v : Value) (offset words : ℕ) (s : State) (l : Location) (s′ : State) : Type 0 where
-  pub pointer : Datum
-  pub child : value-at v s ≡ ok pointer s′
-  pub access : l .access ≡ followed pointer
-  pub at : l .at ≡ pointer .value + offset
-  pub from : pointer .base ≤ l .at
-  pub upto : l .at + words ≤ pointer .end
-
--- How a tree comes by its place l: worked out from state s, with state s′ afterwards. No event is the place's own.
-pub data Comes-by (s : State) (l : Location) (s′ : State) : Place → Type 0 where
-  -- "A read or an assignment names a variable when its place is of kind 1." "Variable: its word, with bounds [word, word + 1)."
-  variable-place : {n i : ℕ} → l .access ≡ named i → l .at ≡ 1 + i → l .base ≡ 1 + i → l .end ≡ 1 + i + 1 → s′ ≡ s → Comes-by s l s′ (Variable n i)
-  -- "Otherwise the place is a follow or a field": "The place is v and keeps [b, e)"
-  deref-place : {n : ℕ} {v : Value} (f : Followed-to v 0 1 s l s′) → l .base ≡ f .pointer .base → l .end ≡ f .pointer .end → Comes-by s l s′ (Deref n v)
-  -- "The place is w with bounds [w, w + k)."
-  field-place : {n offset k : ℕ} {v : Value} → Followed-to v offset k s l s′ → l .base ≡ l .at → l .end ≡ l .at + k → Comes-by s l s′ (Field n offset k v)
-
 -- One event more, and memory and U as they were.
 pub record Noted (e : Event) (s s′ : State) : Type 0 where
   pub values : s′ .values ≡ s .values
@@ -84,6 +65,28 @@ pub record Noted (e : Event) (s s′ : State) : Type 0 where
   pub ends : s′ .ends ≡ s .ends
   pub unused : s′ .unused ≡ s .unused
   pub log : s′ .log ≡ e ∷ s .log
+
+-- A place of node n that a pointer was followed to: "its child a is the pointer followed, and the bounds are those that this value had when the
+-- place was worked out." It is `offset` words past the pointer's value, and the `words` words from there on lie within the pointer's bounds: that
+-- check is the one event of the place's own, after those of the child.
+pub record Followed-to (n : ℕ) (v : Value) (offset words : ℕ) (s : State) (l : Location) (s′ : State) : Type 0 where
+  pub pointer : Datum
+  pub s₁ : State
+  pub child : value-at v s ≡ ok pointer s₁
+  pub access : l .access ≡ followed pointer
+  pub at : l .at ≡ pointer .value + offset
+  pub from : pointer .base ≤ l .at
+  pub upto : l .at + words ≤ pointer .end
+  pub event : Noted (tested (check-of n pointer (l .at) words)) s₁ s′
+
+-- How a tree comes by its place l: worked out from state s, with state s′ afterwards.
+pub data Comes-by (s : State) (l : Location) (s′ : State) : Place → Type 0 where
+  -- "A read or an assignment names a variable when its place is of kind 1." "Variable: its word, with bounds [word, word + 1)."
+  variable-place : {n i : ℕ} → l .access ≡ named i → l .at ≡ 1 + i → l .base ≡ 1 + i → l .end ≡ 1 + i + 1 → s′ ≡ s → Comes-by s l s′ (Variable n i)
+  -- "Otherwise the place is a follow or a field": "The place is v and keeps [b, e)"
+  deref-place : {n : ℕ} {v : Value} (f : Followed-to n v 0 1 s l s′) → l .base ≡ f .pointer .base → l .end ≡ f .pointer .end → Comes-by s l s′ (Deref n v)
+  -- "The place is w with bounds [w, w + k)."
+  field-place : {n offset k : ℕ} {v : Value} → Followed-to n v offset k s l s′ → l .base ≡ l .at → l .end ≡ l .at + k → Comes-by s l s′ (Field n offset k v)
 
 -- "Read: a pointer type gives value, base and end of the word; int gives the value without bounds"
 pub data Word-read (s : State) (w : ℕ) (d : Datum) : Bool → Type 0 where
@@ -132,6 +135,38 @@ pub record Assigns (pointer : Bool) (p : Place) (v : Value) (s s′ : State) : T
   pub memory : Word-stored s₂ (l .at) x s′ pointer
   pub unused : s′ .unused ≡ s₂ .unused
   pub log : s′ .log ≡ stored (l .at) (l .access) ∷ s₂ .log
+
+-- ---- The check by which a step fails
+
+-- A place's own check, by the pointer that its child gave: "A check not passed is an abort." It is one event after those of the child.
+pub record Own-check (n : ℕ) (v : Value) (offset words : ℕ) (s : State) (x : Bounds-check) (s′ : State) : Type 0 where
+  pub pointer : Datum
+  pub s₁ : State
+  pub child : value-at v s ≡ ok pointer s₁
+  pub is : x ≡ check-of n pointer (pointer .value + offset) words
+  pub not-passed : x .base ≤ x .at → x .at + x .words ≤ x .end → ⊥
+  pub event : Noted (tested x) s₁ s′
+
+-- How a tree fails: a follow or a field by its own check or where its child did, any other tree where a child did. It is then by that child's
+-- check and in that child's state. "Child a goes before child b"
+pub data Place-fails (s : State) (x : Bounds-check) (s′ : State) : Place → Type 0 where
+  deref-check : {n : ℕ} {v : Value} → Own-check n v 0 1 s x s′ → Place-fails s x s′ (Deref n v)
+  deref-child : {n : ℕ} {v : Value} → value-at v s ≡ fails x s′ → Place-fails s x s′ (Deref n v)
+  field-check : {n offset k : ℕ} {v : Value} → Own-check n v offset k s x s′ → Place-fails s x s′ (Field n offset k v)
+  field-child : {n offset k : ℕ} {v : Value} → value-at v s ≡ fails x s′ → Place-fails s x s′ (Field n offset k v)
+
+pub data Value-fails (s : State) (x : Bounds-check) (s′ : State) : Value → Type 0 where
+  sum-left : {n step : ℕ} {a b : Value} → value-at a s ≡ fails x s′ → Value-fails s x s′ (Sum n step a b)
+  sum-right : {n step : ℕ} {a b : Value} (p : Datum) (s₁ : State) → value-at a s ≡ ok p s₁ → value-at b s₁ ≡ fails x s′ → Value-fails s x s′ (Sum n step a b)
+  read-place : {n : ℕ} {pointer : Bool} {p : Place} → place-at p s ≡ fails x s′ → Value-fails s x s′ (Read n pointer p)
+  address-place : {n : ℕ} {p : Place} → place-at p s ≡ fails x s′ → Value-fails s x s′ (Address n p)
+  cast-child : {n : ℕ} {keeps : Bool} {v : Value} → value-at v s ≡ fails x s′ → Value-fails s x s′ (Cast n keeps v)
+  malloc-child : {n : ℕ} {v : Value} → value-at v s ≡ fails x s′ → Value-fails s x s′ (Malloc n v)
+
+-- "a command's place before its value"
+pub data Assign-fails (p : Place) (v : Value) (s : State) (x : Bounds-check) (s′ : State) : Type 0 where
+  in-place : place-at p s ≡ fails x s′ → Assign-fails p v s x s′
+  in-value : (l : Location) (s₁ : State) → place-at p s ≡ ok l s₁ → value-at v s₁ ≡ fails x s′ → Assign-fails p v s x s′
 
 -- ---- A call
 

@@ -31,11 +31,20 @@ pub record Location : Type 0 where
   pub end : ℕ
   pub access : Access
 
--- What the fence rule speaks of: a word read, a word written, a block obtained.
+-- A check that a follow or a field makes: its node, the place and the number of words wanted, and the bounds of the pointer followed.
+pub record Bounds-check : Type 0 where
+  pub node : ℕ
+  pub at : ℕ
+  pub words : ℕ
+  pub base : ℕ
+  pub end : ℕ
+
+-- What the fence rule speaks of: a word read, a word written, a block obtained. Request 4: and a check, whether passed or not.
 pub data Event : Type 0 where
   loaded : (at : ℕ) → Access → Event
   stored : (at : ℕ) → Access → Event
   allocated : (start words : ℕ) → Event
+  tested : Bounds-check → Event
 
 -- The memory, U, and the events so far, newest first. The log is the rules' own: no program keeps it.
 pub record State : Type 0 where
@@ -51,18 +60,10 @@ noted e s = record { values = s .values; bases = s .bases; ends = s .ends; unuse
 abbrev pub with-values : Words → State → State
 with-values values s = record { values = values; bases = s .bases; ends = s .ends; unused = s .unused; log = s .log }
 
--- A check that was not passed: whose, the place and the number of words wanted, and the bounds.
-pub record Shortfall : Type 0 where
-  pub node : ℕ
-  pub at : ℕ
-  pub words : ℕ
-  pub base : ℕ
-  pub end : ℕ
-
--- "touching a word with no rule is a fourth ending": no-rule.
+-- `fails` has the check that was not passed. "touching a word with no rule is a fourth ending": no-rule.
 pub data Outcome (A : Type 0) : Type 0 where
   ok : A → State → Outcome A
-  fails : Shortfall → State → Outcome A
+  fails : Bounds-check → State → Outcome A
   no-room : State → Outcome A
   no-rule : State → Outcome A
 
@@ -80,10 +81,15 @@ variable-location i = record { at = 1 + i; base = 1 + i; end = 1 + i + 1; access
 unfoldable pub in-bounds : Datum → ℕ → ℕ → Bool
 in-bounds p w k = leb (p .base) w && leb (w + k) (p .end)
 
+-- Node n wants k words from w on, by the pointer p.
+abbrev pub check-of : ℕ → Datum → ℕ → ℕ → Bounds-check
+check-of n p w k = record { node = n; at = w; words = k; base = p .base; end = p .end }
+
 -- "A check not passed is an abort."
 unfoldable pub checked : ℕ → Datum → ℕ → ℕ → Location → State → Outcome Location
 checked n p w k l s =
-    if in-bounds p w k then ok l s else fails (record { node = n; at = w; words = k; base = p .base; end = p .end }) s
+    let x = check-of n p w k in
+    if in-bounds p w k then ok l (noted (tested x) s) else fails x (noted (tested x) s)
 
 -- "Follow: a pointer v with bounds [b, e) passes when b ≤ v and v + 1 ≤ e. The place is v and keeps [b, e)"
 unfoldable pub deref-step : ℕ → Datum → State → Outcome Location

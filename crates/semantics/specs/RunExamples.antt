@@ -21,69 +21,74 @@ two-records =
 abbrev targets : Words
 targets = 0 ∷ 2 ∷ 65537 ∷ 65536 ∷ 1 ∷ []
 
-abbrev int : ℕ
+abbrev pub int : ℕ
 int = 0
 
 abbrev void* : ℕ
 void* = 1
 
-abbrev int* : ℕ
+abbrev pub int* : ℕ
 int* = 2
 
 abbrev int** : ℕ
 int** = 3
 
-abbrev record-1* : ℕ
+abbrev pub record-1* : ℕ
 record-1* = 4
 
 abbrev record-0* : ℕ
 record-0* = 5
 
 -- Variables: the int x in word 1, p in word 2, v in word 3, r in word 4. The first block begins at word 5.
-abbrev x : Term
+abbrev pub x : Term
 x = Var 0
 
-abbrev p : Term
+abbrev pub p : Term
 p = Var 1
 
-abbrev v : Term
+abbrev pub v : Term
 v = Var 2
 
-abbrev r : Term
+abbrev pub r : Term
 r = Var 3
 
-abbrev from-registers : Words → List Command → Answer → List Datum → Example
-from-registers l cs =
-    ends-so (types two-records targets (int ∷ int* ∷ void* ∷ record-1* ∷ []) ++ routine cs) (30 ∷ 0 ∷ 0 ∷ 0 ∷ []) l 12
+abbrev pub table : List Command → Words
+table cs = types two-records targets (int ∷ int* ∷ void* ∷ record-1* ∷ []) ++ routine cs
 
-abbrev run : List Command → Answer → List Datum → Example
+abbrev pub inputs : Words
+inputs = 30 ∷ 0 ∷ 0 ∷ 0 ∷ []
+
+abbrev pub from-registers : Words → List Command → Answer → List Datum → Example
+from-registers l cs = ends-so (table cs) inputs l 12
+
+abbrev pub run : List Command → Answer → List Datum → Example
 run = from-registers no-registers
 
 -- Memory up to U: the four variables, then the blocks.
-abbrev left : ℕ → Datum → Datum → Datum → List Datum → List Datum
+abbrev pub left : ℕ → Datum → Datum → Datum → List Datum → List Datum
 left a b c d blocks = unbounded a ∷ b ∷ c ∷ d ∷ blocks
 
-abbrev none : Datum
+abbrev pub none : Datum
 none = unbounded 0
 
 abbrev clear : ℕ → List Datum
 clear n = replicate n none
 
 -- (ty)malloc(n), *t, (ty)t + k
-abbrev malloc-as : ℕ → ℕ → Term
+abbrev pub malloc-as : ℕ → ℕ → Term
 malloc-as ty n = Cast (Malloc (Num n)) ty
 
-abbrev at : Term → Term
+abbrev pub at : Term → Term
 at t = Deref (Read t)
 
-abbrev plus : Term → ℕ → Term
+abbrev pub plus : Term → ℕ → Term
 plus t k = Sum (Read t) (Num k)
 
-abbrev as-plus : ℕ → Term → ℕ → Term
+abbrev pub as-plus : ℕ → Term → ℕ → Term
 as-plus ty t k = Sum (Cast (Read t) ty) (Num k)
 
 -- p = (int*)malloc(2), words 5 and 6
-abbrev m : Command
+abbrev pub m : Command
 m = p := malloc-as int* 2
 
 -- ---- "Memory"

@@ -1,5 +1,5 @@
--- What the answers of calls don't show: trees with all that elaboration settles, the value of each kind of tree, registers over dirty words, the
--- check that ends a run, steps without a rule, and the test for refusal 12.
+-- What the answers of calls don't show: trees with all that elaboration settles, the value of each kind of tree, registers over dirty words, steps
+-- without a rule, and the test for refusal 12.
 use Prim.Native.Nat.{ℕ}
 use mathlib.Core.Bool.{Bool, true, false}
 use mathlib.Core.List.{List, [], _∷_, _++_}
@@ -8,9 +8,9 @@ use Rattle.semantics.specs.Words.{Words}
 use Rattle.semantics.specs.Check.{deeper}
 use Rattle.semantics.specs.Syntax.{Value, Tree, place, value, Variable, Number, NoValue}
 use Rattle.semantics.specs.Syntax as tree
-use Rattle.semantics.specs.Rules.{Datum, unbounded, allocated, State, Shortfall, Outcome, ok, fails, no-room, no-rule, value-at}
-use Rattle.semantics.specs.Run.{begin, command, Ending, done, stuck, commands-below}
-use Rattle.semantics.specs.ExampleTables.{types, of-type, Term, Var, Deref, Field, Num, Sum, Read, Address, Cast, Size, Malloc, Command, _:=_, routine, bounded, no-registers}
+use Rattle.semantics.specs.Rules.{Datum, unbounded, allocated, State, Outcome, ok, fails, no-room, no-rule, value-at}
+use Rattle.semantics.specs.Run.{Ending, done, stuck, commands-below}
+use Rattle.semantics.specs.ExampleTables.{types, of-type, Term, Var, Deref, Field, Num, Sum, Read, Address, Cast, Size, Malloc, Command, _:=_, routine, bounded}
 
 -- Record 0 has one field, record 1 fields of 2 and 3 ints. Variables p, pointer to record 1 (type 2), q, pointer to int (type 3), and the int x.
 abbrev table : List Command → Words
@@ -96,51 +96,6 @@ registered =
     record { values = 0 ∷ 5 ∷ 0 ∷ 0 ∷ 8 ∷ 8 ∷ []; bases = 0 ∷ 2 ∷ 0 ∷ 0 ∷ 8 ∷ 8 ∷ []; ends = 0 ∷ 4 ∷ 0 ∷ 0 ∷ 8 ∷ 8 ∷ []; unused = 4; log = [] }
     ∷ record { values = 0 ∷ 5 ∷ 4 ∷ 0 ∷ 70 ∷ 8 ∷ []; bases = 0 ∷ 2 ∷ 4 ∷ 0 ∷ 0 ∷ 8 ∷ []; ends = 0 ∷ 4 ∷ 5 ∷ 0 ∷ 0 ∷ 8 ∷ []; unused = 5; log = allocated 4 1 ∷ [] }
     ∷ record { values = 0 ∷ 5 ∷ 4 ∷ 0 ∷ 70 ∷ 80 ∷ []; bases = 0 ∷ 2 ∷ 4 ∷ 0 ∷ 0 ∷ 0 ∷ []; ends = 0 ∷ 4 ∷ 6 ∷ 0 ∷ 0 ∷ 0 ∷ []; unused = 6; log = allocated 4 2 ∷ [] }
-    ∷ []
-
--- ---- The check that was not passed: "the place and the number of words wanted, and the bounds"
-
-abbrev not-passed : Outcome (Unit {0}) → List Shortfall
-not-passed (ok x s) = []
-not-passed (fails x s) = x ∷ []
-not-passed (no-room s) = []
-not-passed (no-rule s) = []
-
--- Commands, of which this one ends the run, in memory of 20 words, and the check that it does not pass.
-pub record Failure : Type 0 where
-  pub commands : List Command
-  pub number : ℕ
-  pub check : List Shortfall
-
-unfoldable pub failing : Failure → Failure
-failing x =
-    record {
-      commands = x .commands;
-      number = x .number;
-      check =
-          not-passed
-          (command (table (x .commands)) (x .number)
-          (commands-below (table (x .commands)) (x .number) (begin (table (x .commands)) (0 ∷ 0 ∷ 0 ∷ []) no-registers 20) .state));
-    }
-
-abbrev fails-at : List Command → ℕ → (node at words base end : ℕ) → Failure
-fails-at cs c n w k b e = record { commands = cs; number = c; check = record { node = n; at = w; words = k; base = b; end = e } ∷ [] }
-
--- q = (int*)malloc(2), nodes 0 to 3: words 4 and 5
-abbrev two-words : Command
-two-words = q := Cast (Malloc (Num 2)) 3
-
-unfoldable pub failures : List Failure
-failures =
-    -- *(q + 2) = 7: past the end; *(q + 4294967295) = 7: before the base
-    fails-at (two-words ∷ (Deref (Sum (Read q) (Num 2)) := Num 7) ∷ []) 1 8 6 1 4 6
-    ∷ fails-at (two-words ∷ (Deref (Sum (Read q) (Num 4294967295)) := Num 7) ∷ []) 1 8 3 1 4 6
-    -- without bounds, the first command
-    ∷ fails-at ((Deref (Read q) := Num 7) ∷ two-words ∷ []) 0 2 0 1 0 0
-    -- the second field of record 1 over 4 words: all 3 are wanted from the third on
-    ∷ fails-at ((p := Cast (Malloc (Num 4)) 2) ∷ (q := Address (Field (Read p) 1)) ∷ []) 1 7 6 3 4 8
-    -- an exact sum: ((record 1*)4294967295)->second
-    ∷ fails-at ((q := Address (Field (Cast (Num 4294967295) 2) 1)) ∷ []) 0 3 4294967297 3 0 0
     ∷ []
 
 -- ---- "touching a word with no rule is a fourth ending": it ends the run at that command. No run that is begun comes there.

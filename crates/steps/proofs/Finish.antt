@@ -3,7 +3,8 @@ use Prim.Native.Nat.{ℕ, _+_, _*_, _%_, _≤_, _<_, _^_}
 use native.Mathlib.Nat.{lt-of-le-of-lt, le-of-lt, mul-le-mul-left, mul-lt-mul-of-pos-right}
 use mathlib.Core.Bool.{Bool, true, false}
 use mathlib.Core.Path.{_≡_, refl, sym, ap, subst, _∙_}
-use mathlib.Core.List.{List, []}
+use mathlib.Core.Logic.{inl, inr}
+use mathlib.Core.List.{List, [], _∷_}
 use native.Mathlib.Omega.{arith}
 use borrow.Author.Tests.{le-leb, lt-leb, eq-eqb, ne-eqb, lt-ltb}
 use lib.Dec.{leb}
@@ -11,11 +12,14 @@ use lib.ListN.{length}
 use Rattle.words.specs.Columns.{column}
 use Rattle.semantics.specs.Words.{Words, word}
 use Rattle.semantics.specs.Table.{is-pointer}
-use Rattle.semantics.specs.Rules.{Datum, unbounded, Location, variable-location, Event, State, Outcome, ok, bind, in-bounds, checked, deref-step, field-step, touchable, contents, read-step, sum-step, cast-step, malloc-step}
+use Rattle.semantics.specs.Rules.{Datum, unbounded, Location, variable-location, Event, allocated, tested, State, Outcome, ok, bind, in-bounds, checked, deref-step, field-step, touchable, contents, read-step, sum-step, cast-step, malloc-step}
+use Rattle.semantics.specs.Explain.{block-start}
 use Rattle.semantics.proofs.Tests.{in-bounds-true}
 use Rattle.semantics.proofs.Invariant.{Inv, permitted-used, Location-ok, Good, good-ok}
 use Rattle.semantics.proofs.Steps.{block-clear}
-use Rattle.steps.specs.Answers.{slots, base-slot, end-slot, unused-slot, failed, full, state-of, Datum-is, Location-is, Answers, answers-ok, answers-failed, answers-full, Given, Bounded, Told, within-bounds, Finishes, Deref-finishes, Field-finishes, Sum-finishes, Load-finishes, Cast-finishes, Malloc-finishes}
+use Rattle.semantics.proofs.Starts.{start-newest, start-older}
+use Rattle.steps.proofs.Slots.{Raised}
+use Rattle.steps.specs.Answers.{slots, base-slot, end-slot, unused-slot, limit-slot, found-slot, failed, full, state-of, check-in, Datum-is, Location-is, Watches, waiting, seen, Answers, answers-ok, answers-failed, answers-full, Kept, Given, Bounded, Told, Reserved, below-limit, past-limit, no-words, within-bounds, Finishes, Deref-finishes, Field-finishes, Sum-finishes, Load-finishes, Cast-finishes, Malloc-finishes}
 
 -- ---- bounds
 
@@ -28,7 +32,7 @@ unfolding in-bounds
 within-no b e w k p h = rw (lt-leb b w (omega arith))
 
 pub inside : (b e w k : ℕ) {f : Bool} → f ≡ within-bounds b e w k → f ≡ true → (b ≤ w) × (w + k ≤ e)
-inside b e w k tested passed = in-bounds-true (record { value = 0; base = b; end = e }) w k (sym tested ∙ passed)
+inside b e w k test passed = in-bounds-true (record { value = 0; base = b; end = e }) w k (sym test ∙ passed)
 
 -- Only base and end of the pointer matter.
 bounds-of : (p : Datum) {b e : ℕ} → p .base ≡ b → p .end ≡ e → (w k : ℕ) → in-bounds p w k ≡ within-bounds b e w k
@@ -39,11 +43,11 @@ bounds-of p hb he w k = rw (hb, he)
 
 pub given-number : {x r : ℕ} {s s′ : Words} → Bounded 0 0 s s′ → r ≡ x → r < failed → Given Datum-is (unbounded x) s r s′
 given-number h e small =
-    record { room = h .room; is = record { value = sym e; base = sym (h .base); end = sym (h .end) }; small = small; unused = h .unused }
+    record { room = h .room; is = record { value = sym e; base = sym (h .base); end = sym (h .end) }; small = small; kept = h .kept }
 
 pub given-variable : {i x r : ℕ} {s s′ : Words} → Bounded x (x + 1) s s′ → x ≡ i + 1 → r ≡ x → r < failed → Given Location-is (variable-location i) s r s′
 given-variable h hx hr small =
-    record { room = h .room; is = record { at = omega arith; base = omega (arith, h .base); end = omega (arith, h .end) }; small = small; unused = h .unused }
+    record { room = h .room; is = record { at = omega arith; base = omega (arith, h .base); end = omega (arith, h .end) }; small = small; kept = h .kept }
 
 -- What stands at word w of the lists.
 abbrev Fetched : ℕ → ℕ → List Words → Words → ℕ → Words → Type 0
@@ -58,85 +62,96 @@ pub fetched-pointer : {p b e r : ℕ} {s s′ : Words} (m : List Words) (w : ℕ
 unfolding is-pointer
 fetched-pointer {p} m w some h hr hb he small =
     rw (le-leb 1 p (omega (arith, some)))
-    (record { room = h .room; is = record { value = sym hr; base = sym hb ∙ sym (h .base); end = sym he ∙ sym (h .end) }; small = small; unused = h .unused })
+    (record { room = h .room; is = record { value = sym hr; base = sym hb ∙ sym (h .base); end = sym he ∙ sym (h .end) }; small = small; kept = h .kept })
+
+-- ---- what is watched for
+
+-- The slots that it stands in are kept, and so are the blocks of the log.
+pub watches-on : {w len : ℕ} {s s′ : Words} {log log′ : List Event} → Kept s s′ → block-start log′ w ≡ block-start log w → Watches w len s log → Watches w len s′ log′
+watches-on k same (waiting l u w f) = waiting (k .limit ∙ l) (omega (arith, k .unused)) w (k .found ∙ f ∙ sym same)
+watches-on k same (seen l u f) = seen (k .limit ∙ l) (omega (arith, k .unused)) (k .found ∙ f ∙ sym same)
+
+pub all-kept : (s : Words) → Kept s s
+all-kept s = record { unused = refl; limit = refl; found = refl }
 
 -- ---- a child's answer: evaluation has ended there, or it goes on
 
 module _ {A B : Type 0} {Child : A → ℕ → Words → Type 0} {Ok : ℕ → A → State → Type 0} {Node : B → ℕ → Words → Type 0} where
   -- The slots go on with it.
   pub passed-on : (f : A → State → Outcome B) {m : List Words} {v : ℕ} {s : Words} → length s ≡ slots → failed ≤ v → Finishes Child Ok Node f m v s v s
-  passed-on f {m} {v} {s} room over = record { room = room; meets = λ vars len s₀ o a g. on a }
+  passed-on f {m} {v} {s} room over = record { room = room; meets = λ vars len w s₀ o a g. on a }
     where
-      on : {o : Outcome A} → Answers Child m v s o → Answers Node m v s (bind o f)
-      on (answers-ok x log h small) = absurd (omega arith)
-      on (answers-failed log h) = answers-failed log h
+      on : {w : ℕ} {o : Outcome A} → Answers Child w m v s o → Answers Node w m v s (bind o f)
+      on (answers-ok x log h small watch) = absurd (omega arith)
+      on (answers-failed log h watch) = answers-failed log h watch
       on (answers-full log h) = answers-full log h
 
   pub goes-on : (f : A → State → Outcome B) {m : List Words} {v r : ℕ} {s s′ : Words} → length s′ ≡ slots → v < failed
-      → ((vars len : ℕ) (x : A) (log : List Event) → Child x v s → Inv vars len (state-of m (word s unused-slot) log) → Ok vars x (state-of m (word s unused-slot) log)
-      → Answers Node m r s′ (f x (state-of m (word s unused-slot) log)))
+      → ((vars len w : ℕ) (x : A) (log : List Event) → Child x v s → Watches w (length (column m 0)) s log → Inv vars len (state-of m (word s unused-slot) log)
+      → Ok vars x (state-of m (word s unused-slot) log) → Answers Node w m r s′ (f x (state-of m (word s unused-slot) log)))
       → Finishes Child Ok Node f m v s r s′
-  goes-on f {m} {v} {r} {s} {s′} room under k = record { room = room; meets = λ vars len s₀ o a g. on vars len a g }
+  goes-on f {m} {v} {r} {s} {s′} room under k = record { room = room; meets = λ vars len w s₀ o a g. on vars len w a g }
     where
-      on : (vars len : ℕ) {s₀ : State} {o : Outcome A} → Answers Child m v s o → Good vars len s₀ (Ok vars) o → Answers Node m r s′ (bind o f)
-      on vars len (answers-ok x log h small) (good-ok inv later fine) = k vars len x log h inv fine
-      on vars len (answers-failed log h) g = absurd (omega arith)
-      on vars len (answers-full log h) g = absurd (omega arith)
+      on : (vars len w : ℕ) {s₀ : State} {o : Outcome A} → Answers Child w m v s o → Good vars len s₀ (Ok vars) o → Answers Node w m r s′ (bind o f)
+      on vars len w (answers-ok x log h small watch) (good-ok inv later fine) = k vars len w x log h watch inv fine
+      on vars len w (answers-failed log h watch) g = absurd (omega arith)
+      on vars len w (answers-full log h) g = absurd (omega arith)
 
 -- A result with this U.
-pub given-ok : {A : Type 0} {Is : A → ℕ → Words → Type 0} {m : List Words} {r u : ℕ} {s′ : Words} (x : A) (log : List Event) → Is x r s′ → r < failed → word s′ unused-slot ≡ u
-    → Answers Is m r s′ (ok x (state-of m u log))
-given-ok x log h small same = rw (← same) (answers-ok x log h small)
+pub given-ok : {A : Type 0} {Is : A → ℕ → Words → Type 0} {w r u : ℕ} {m : List Words} {s′ : Words} (x : A) (log : List Event) → Is x r s′ → r < failed → word s′ unused-slot ≡ u
+    → Watches w (length (column m 0)) s′ log → Answers Is w m r s′ (ok x (state-of m u log))
+given-ok x log h small same watch = rw (← same) (answers-ok x log h small watch)
 
 -- A check that is passed: its location.
-checked-yes : {u r : ℕ} {s : Words} {m : List Words} (n : ℕ) (p : Datum) (w k : ℕ) (l : Location) (log : List Event)
-    → in-bounds p w k ≡ true → Location-is l r s → r < failed → word s unused-slot ≡ u
-    → Answers Location-is m r s (checked n p w k l (state-of m u log))
-unfolding checked
-checked-yes n p w k l log t h small same = rw t (given-ok l log h small same)
+checked-yes : {w r : ℕ} {s s′ : Words} {m : List Words} (n : ℕ) (p : Datum) (at k : ℕ) (l : Location) (log : List Event)
+    → in-bounds p at k ≡ true → Location-is l r s′ → r < failed → Kept s s′ → Watches w (length (column m 0)) s log
+    → Answers Location-is w m r s′ (checked n p at k l (state-of m (word s unused-slot) log))
+unfolding checked block-start
+checked-yes n p at k l log t h small kept watch = rw t (given-ok l _ h small (kept .unused) (watches-on kept refl watch))
 
 -- A check that is not passed: the slots tell it.
-checked-no : {n w k r : ℕ} {s s′ : Words} {m : List Words} (p : Datum) (l : Location) (log : List Event)
-    → in-bounds p w k ≡ false → r ≡ failed → Told n w k s s′ → p .base ≡ word s base-slot → p .end ≡ word s end-slot
-    → Answers Location-is m r s′ (checked n p w k l (state-of m (word s unused-slot) log))
-unfolding checked
-checked-no {n} {w} {k} {r} {s} {s′} {m} p l log t h t′ hb he =
-    rw (t, hb, he, ← t′ .told, ← t′ .unused) (answers-failed log h)
+checked-no : {n at k w r : ℕ} {s s′ : Words} {m : List Words} (p : Datum) (l : Location) (log : List Event)
+    → in-bounds p at k ≡ false → r ≡ failed → Told n at k s s′ → p .base ≡ word s base-slot → p .end ≡ word s end-slot → Watches w (length (column m 0)) s log
+    → Answers Location-is w m r s′ (checked n p at k l (state-of m (word s unused-slot) log))
+unfolding checked block-start
+checked-no {n} {at} {k} {s = s} {s′ = s′} {m = m} p l log t h t′ hb he watch =
+    rw (t, hb, he, ← t′ .told, ← t′ .kept .unused) (answers-failed (tested (check-in s′) ∷ log) h (watches-on (t′ .kept) refl watch))
 
 -- ---- places
 
 pub deref-yes : {v : ℕ} {m : List Words} {s : Words} {f : Bool} (n : ℕ) → length s ≡ slots → v < failed → f ≡ within-bounds (word s base-slot) (word s end-slot) v 1 → f ≡ true → Deref-finishes n m v s v s
 unfolding deref-step
-deref-yes {v} n room under tested passed =
+deref-yes {v} {s = s} n room under test passed =
     goes-on (deref-step n) room under
-    (λ vars len p log h inv fine.
-    checked-yes n p (p .value) 1 _ log (ap (λ w. in-bounds p w 1) (h .value) ∙ bounds-of p (h .base) (h .end) v 1 ∙ sym tested ∙ passed) (record { at = h .value; base = h .base; end = h .end }) under refl)
+    (λ vars len w p log h watch inv fine.
+    checked-yes n p (p .value) 1 _ log (ap (λ x. in-bounds p x 1) (h .value) ∙ bounds-of p (h .base) (h .end) v 1 ∙ sym test ∙ passed) (record { at = h .value; base = h .base; end = h .end }) under (all-kept s) watch)
 
 pub deref-no : {n v r : ℕ} {m : List Words} {s s′ : Words} {f : Bool} → v < failed → f ≡ within-bounds (word s base-slot) (word s end-slot) v 1 → f ≡ false → r ≡ failed → Told n v 1 s s′ → Deref-finishes n m v s r s′
 unfolding deref-step
-deref-no {n} {v} {s = s} {s′ = s′} under tested passed h t =
+deref-no {n} {v} {s = s} {s′ = s′} under test passed h t =
     goes-on (deref-step n) (t .room) under
-    (λ vars len p log i inv fine. checked-no p _ log (ap (λ w. in-bounds p w 1) (i .value) ∙ bounds-of p (i .base) (i .end) v 1 ∙ sym tested ∙ passed) h (subst (λ w. Told n w 1 s s′) (sym (i .value)) t) (i .base) (i .end))
+    (λ vars len w p log i watch inv fine.
+    checked-no p _ log (ap (λ x. in-bounds p x 1) (i .value) ∙ bounds-of p (i .base) (i .end) v 1 ∙ sym test ∙ passed) h (subst (λ x. Told n x 1 s s′) (sym (i .value)) t) (i .base) (i .end) watch)
 
 module _ {v w x : ℕ} {m : List Words} {s s′ : Words} {f : Bool} (n o k : ℕ) (under : v < failed) (wo : w ≡ o) (xk : x ≡ k)
-    (tested : f ≡ within-bounds (word s base-slot) (word s end-slot) (v + w) x) where
+    (test : f ≡ within-bounds (word s base-slot) (word s end-slot) (v + w) x) where
   pub field-yes : {b e : ℕ} → f ≡ true → word s end-slot < failed → Bounded b e s s′ → b ≡ v + w → e ≡ v + w + x → Field-finishes n o k m v s (v + w) s′
   unfolding field-step
   field-yes passed small set hb he =
       goes-on (field-step n o k) (set .room) under
-      (λ vars len p log h inv fine.
-      let fits = inside (word s base-slot) (word s end-slot) (v + w) x tested passed in
+      (λ vars len word-watched p log h watch inv fine.
+      let fits = inside (word s base-slot) (word s end-slot) (v + w) x test passed in
       let same : p .value + o ≡ v + w = omega (arith, h .value) in
-      checked-yes n p _ _ _ log (rw (same, ← xk) (bounds-of p (h .base) (h .end) (v + w) x ∙ sym tested ∙ passed))
-      (record { at = same; base = omega (arith, same, set .base); end = omega (arith, same, set .end) }) (omega (arith, fits)) (set .unused))
+      checked-yes n p _ _ _ log (rw (same, ← xk) (bounds-of p (h .base) (h .end) (v + w) x ∙ sym test ∙ passed))
+      (record { at = same; base = omega (arith, same, set .base); end = omega (arith, same, set .end) }) (omega (arith, fits)) (set .kept) watch)
 
   pub field-no : {r : ℕ} → f ≡ false → r ≡ failed → Told n (v + w) x s s′ → Field-finishes n o k m v s r s′
   unfolding field-step
   field-no passed h t =
       goes-on (field-step n o k) (t .room) under
-      (λ vars len p log i inv fine.
+      (λ vars len word-watched p log i watch inv fine.
       let same : p .value + o ≡ v + w = omega (arith, i .value) in
-      rw (same, ← xk) (checked-no p _ log (bounds-of p (i .base) (i .end) (v + w) x ∙ sym tested ∙ passed) h t (i .base) (i .end)))
+      rw (same, ← xk) (checked-no p _ log (bounds-of p (i .base) (i .end) (v + w) x ∙ sym test ∙ passed) h t (i .base) (i .end) watch))
 
 -- ---- values
 
@@ -148,7 +163,8 @@ pub sum-done : {v w b e r : ℕ} {m : List Words} {s s′ : Words} (step : ℕ) 
     → r ≡ (v + step * w) % 4294967296 → r < failed → Sum-finishes step p m w s r s′
 sum-done step p hv hb he under set h small =
     goes-on (sum-step step p) (set .room) under
-    (λ vars len x log i inv fine. given-ok _ log (record { value = rw (hv, i .value) (sym h); base = hb ∙ sym (set .base); end = he ∙ sym (set .end) }) small (set .unused))
+    (λ vars len w x log i watch inv fine.
+    given-ok _ log (record { value = rw (hv, i .value) (sym h); base = hb ∙ sym (set .base); end = he ∙ sym (set .end) }) small (set .kept .unused) (watches-on (set .kept) refl watch))
 
 -- A place that may be touched is in use.
 pub touched : {vars len at : ℕ} {l : Location} {st : State} → Inv vars len st → Location-ok vars l st → l .at ≡ at
@@ -159,12 +175,12 @@ touched inv fine e =
 
 -- What a read gives is what stands at the place.
 pub load-done : {at r : ℕ} {s s′ : Words} (p : ℕ) (m : List Words) → at < failed → Fetched p at m s r s′ → Load-finishes p m at s r s′
-unfolding read-step touchable
+unfolding read-step touchable block-start
 load-done {at} {s = s} p m under h =
     goes-on (read-step (is-pointer p)) (h .room) under
-    (λ vars len l log i inv fine.
+    (λ vars len w l log i watch inv fine.
     let t = touched inv fine (i .at) in
-    rw (i .at, lt-ltb 0 at (t .0), lt-ltb at (word s unused-slot) (t .1), found (is-pointer p) _ _) (given-ok _ _ (h .is) (h .small) (h .unused)))
+    rw (i .at, lt-ltb 0 at (t .0), lt-ltb at (word s unused-slot) (t .1), found (is-pointer p) _ _) (given-ok _ _ (h .is) (h .small) (h .kept .unused) (watches-on (h .kept) refl watch)))
   where
     found : (b : Bool) (u : ℕ) (log : List Event) → contents b (state-of m u log) at ≡ contents b (state-of m 0 []) at
     found true u log = refl
@@ -173,7 +189,8 @@ load-done {at} {s = s} p m under h =
 pub cast-done : {v : ℕ} {m : List Words} {s s′ : Words} → v < failed → Bounded 0 0 s s′ → Cast-finishes m v s v s′
 cast-done under set =
     goes-on (cast-step false) (set .room) under
-    (λ vars len x log i inv fine. given-ok _ log (record { value = i .value; base = sym (set .base); end = sym (set .end) }) under (set .unused))
+    (λ vars len w x log i watch inv fine.
+    given-ok _ log (record { value = i .value; base = sym (set .base); end = sym (set .end) }) under (set .kept .unused) (watches-on (set .kept) refl watch))
 
 -- ---- blocks
 
@@ -181,22 +198,54 @@ pub malloc-none : {v r : ℕ} {m : List Words} {s s′ : Words} → v ≡ 0 → 
 unfolding malloc-step
 malloc-none zero h =
     goes-on malloc-step (h .room) (omega arith)
-    (λ vars len x log i inv fine. rw (eq-eqb (x .value) 0 (i .value ∙ zero)) (given-ok _ log (h .is) (h .small) (h .unused)))
+    (λ vars len w x log i watch inv fine.
+    rw (eq-eqb (x .value) 0 (i .value ∙ zero)) (given-ok _ log (h .is) (h .small) (h .kept .unused) (watches-on (h .kept) refl watch)))
+
+-- U is raised, and what is watched for is as it was.
+record Raised-to (u : ℕ) (s s′ : Words) : Type 0 where
+  unused : word s′ unused-slot ≡ u
+  limit : word s′ limit-slot ≡ word s limit-slot
+  found : word s′ found-slot ≡ word s found-slot
+
+-- A block of n words was handed out: U is past it, and if it was the first to end past the limit, it is the one that has the word watched for.
+watches-block : {w len n : ℕ} {s s₁ s₂ : Words} {log : List Event} → Reserved (word s unused-slot + n) len s s₁ true → Raised-to (word s unused-slot + n) s₁ s₂ → Watches w len s log
+    → Watches w len s₂ (allocated (word s unused-slot) n ∷ log)
+watches-block {w} {len} {n} {s} {s₁} {s₂} {log} (below-limit small fits same) up (waiting l u top f) =
+    waiting (up .limit ∙ rw same l) (omega (arith, up .unused)) top (up .found ∙ rw same f ∙ sym (start-older (word s unused-slot) n log w (inr (omega arith))))
+watches-block {w} {len} {n} {s} {s₁} {s₂} {log} (below-limit small fits same) up (seen l u f) =
+    seen (up .limit ∙ rw same l) (omega (arith, up .unused)) (up .found ∙ rw same f ∙ sym (start-older (word s unused-slot) n log w (inl u)))
+watches-block {w} {len} {n} {s} {s₁} {s₂} {log} (past-limit small over fits room hu hl hf) up (waiting l u top f) =
+    seen (up .limit ∙ hl) (omega (arith, up .unused)) (up .found ∙ hf ∙ sym (start-newest (word s unused-slot) n log w u (omega arith)))
+watches-block (past-limit small over fits room hu hl hf) up (seen l u f) = absurd (omega arith)
+
+-- There is room up to the limit.
+room-for : {top len w : ℕ} {s s₁ : Words} {log : List Event} → Reserved top len s s₁ true → Watches w len s log → top ≤ len
+room-for (below-limit small fits same) (waiting l u top f) = omega arith
+room-for (below-limit small fits same) (seen l u f) = omega arith
+room-for (past-limit small over fits room hu hl hf) watch = fits
+
+raised-past : {b e u top : ℕ} {s₁ s₂ s₃ : Words} → Bounded b e s₁ s₂ → Raised u s₂ s₃ → u ≡ top → Raised-to top s₁ s₃
+raised-past set up hu = record { unused = up .unused ∙ hu; limit = up .limit ∙ set .kept .limit; found = up .found ∙ set .kept .found }
+
+pub room-small : {top len : ℕ} {s s₁ : Words} → Reserved top len s s₁ true → (top < failed) × (length s ≡ slots → length s₁ ≡ slots)
+room-small (below-limit small fits same) = (small, λ room. rw same room)
+room-small (past-limit small over fits room hu hl hf) = (small, λ _. room)
 
 module _ {len v : ℕ} {m : List Words} {s : Words} (all : length (column m 0) ≡ len) (under : v < failed) (some : v ≡ 0 → ⊥) where
-  pub malloc-some : {r : ℕ} {s′ : Words} → word s unused-slot + v ≤ len → length s′ ≡ slots → word s′ base-slot ≡ word s unused-slot → word s′ end-slot ≡ word s unused-slot + v
-      → word s′ unused-slot ≡ word s unused-slot + v → r ≡ word s unused-slot → r < failed → Malloc-finishes m v s r s′
+  pub malloc-some : {b e u r : ℕ} {s₁ s₂ s₃ : Words} → Reserved (word s unused-slot + v) len s s₁ true → Bounded b e s₁ s₂ → Raised u s₂ s₃ → b ≡ word s unused-slot → e ≡ word s unused-slot + v
+      → u ≡ word s unused-slot + v → r ≡ b → r < failed → Malloc-finishes m v s r s₃
   unfolding malloc-step
-  malloc-some fits room hb he hu hr small =
-      goes-on malloc-step room under
-      (λ vars l x log i inv fine.
-      rw (ne-eqb (x .value) 0 (λ z. some (sym (i .value) ∙ z)), i .value, le-leb (word s unused-slot + v) (length (column m 0)) (omega arith), block-clear v inv)
-      (given-ok _ _ (record { value = sym hr; base = sym hb; end = sym he }) small hu))
+  malloc-some got set up hb he hu hr small =
+      goes-on malloc-step (up .room) under
+      (λ vars l w x log i watch inv fine.
+      rw (ne-eqb (x .value) 0 (λ z. some (sym (i .value) ∙ z)), i .value, le-leb (word s unused-slot + v) (length (column m 0)) (rw all (room-for got (rw all at watch))), block-clear v inv)
+      (given-ok _ _ (record { value = sym (hr ∙ hb); base = sym (up .base ∙ set .base ∙ hb); end = sym (up .end ∙ set .end ∙ he) }) small (up .unused ∙ hu) (rw all (watches-block got (raised-past set up hu) (rw all at watch)))))
 
-  pub malloc-full : {r : ℕ} → length s ≡ slots → len < word s unused-slot + v → r ≡ full → Malloc-finishes m v s r s
+  pub malloc-full : {r : ℕ} {s₁ : Words} → length s ≡ slots → Reserved (word s unused-slot + v) len s s₁ false → r ≡ full → Malloc-finishes m v s r s₁
   unfolding malloc-step
-  malloc-full room over h =
-      goes-on malloc-step room under
-      (λ vars l x log i inv fine.
+  malloc-full room (no-words over same) h =
+      rw same
+      (goes-on malloc-step room under
+      (λ vars l w x log i watch inv fine.
       rw (ne-eqb (x .value) 0 (λ z. some (sym (i .value) ∙ z)), i .value, lt-leb (word s unused-slot + v) (length (column m 0)) (omega arith))
-      (answers-full log h))
+      (answers-full log h)))

@@ -1,15 +1,17 @@
--- How a step answers: one number for the value or the place, or for how evaluation ended; beside it, in seven slots, base, end and U, and
--- on the failing path the check that was not passed.
-use Prim.Native.Nat.{ℕ, _+_, _*_, _<_}
-use mathlib.Core.Bool.{Bool, false}
+-- How a step answers: one number for the value or the place, or for how evaluation ended; beside it, in nine slots, base, end and U, on the
+-- failing path the check that was not passed, and the block that was watched for.
+use Prim.Native.Nat.{ℕ, _+_, _*_, _<_, _≤_}
+use mathlib.Core.Bool.{Bool, true, false}
 use mathlib.Core.Path.{_≡_}
 use mathlib.Core.List.{List}
 use lib.ListN.{length}
 use Rattle.words.specs.Columns.{column}
 use Rattle.semantics.specs.Words.{Words, word}
 use Rattle.semantics.specs.Table.{is-pointer}
-use Rattle.semantics.specs.Rules.{Datum, Location, Event, Shortfall, State, Outcome, ok, fails, no-room, bind, in-bounds, deref-step, field-step, sum-step, read-step, cast-step, malloc-step}
-use Rattle.semantics.proofs.Invariant.{Datum-ok, Location-ok, Good}
+use Rattle.semantics.specs.Rules.{Datum, Location, Bounds-check, Event, State, Outcome, ok, fails, no-room, bind, in-bounds, deref-step, field-step, sum-step, read-step, cast-step, malloc-step}
+use Rattle.semantics.specs.Explain.{block-start}
+use Rattle.semantics.proofs.Invariant.{Inv, Datum-ok, Location-ok, Good}
+use Rattle.steps.specs.declared.FailedCheck.{FailedCheck}
 
 -- The slots.
 abbrev pub base-slot : ℕ
@@ -34,8 +36,16 @@ high-slot = 5
 abbrev pub words-slot : ℕ
 words-slot = 6
 
+-- Up to where words are handed out as a matter of course: an allocation that ends past it is looked at.
+abbrev pub limit-slot : ℕ
+limit-slot = 7
+
+-- The start of the block that has the word watched for, or 0.
+abbrev pub found-slot : ℕ
+found-slot = 8
+
 abbrev pub slots : ℕ
-slots = 7
+slots = 9
 
 abbrev pub failed : ℕ
 failed = 4294967296
@@ -48,7 +58,7 @@ abbrev pub state-of : List Words → ℕ → List Event → State
 state-of m u log = record { values = column m 0; bases = column m 1; ends = column m 2; unused = u; log = log }
 
 -- The check that the slots tell.
-abbrev pub check-in : Words → Shortfall
+abbrev pub check-in : Words → Bounds-check
 check-in s =
     record {
       node = word s node-slot;
@@ -57,6 +67,10 @@ check-in s =
       base = word s base-slot;
       end = word s end-slot;
     }
+
+-- The check that a struct tells.
+abbrev pub check-told : FailedCheck → Bounds-check
+check-told x = record { node = x .node; at = x .place; words = x .words; base = x .base; end = x .end }
 
 -- A result is r, with base and end in the slots.
 pub record Datum-is (d : Datum) (r : ℕ) (s : Words) : Type 0 where
@@ -76,42 +90,72 @@ pub record Number-is (d : Datum) (r : ℕ) (s : Words) : Type 0 where
 pub record Place-is (l : Location) (r : ℕ) (s : Words) : Type 0 where
   pub at : l .at ≡ r
 
--- An outcome is what was answered, r with the slots s, over the lists m and some log: a result; the check in the slots, not passed; or no room.
-pub data Answers {A : Type 0} (Is : A → ℕ → Words → Type 0) (m : List Words) (r : ℕ) (s : Words) : Outcome A → Type 0 where
-  answers-ok : (x : A) (log : List Event) → Is x r s → r < failed → Answers Is m r s (ok x (state-of m (word s unused-slot) log))
-  answers-failed : (log : List Event) → r ≡ failed → Answers Is m r s (fails (check-in s) (state-of m (word s unused-slot) log))
-  answers-full : (log : List Event) → r ≡ full → Answers Is m r s (no-room (state-of m (word s unused-slot) log))
+-- Word w is watched for, in a memory of len words: until a block has it, the limit is w; from then on, the end of the memory. Blocks lie one after
+-- the other, so the one that first ends past w has it.
+pub data Watches (w len : ℕ) (s : Words) (log : List Event) : Type 0 where
+  waiting : word s limit-slot ≡ w → word s unused-slot ≤ w → w ≤ len → word s found-slot ≡ block-start log w → Watches w len s log
+  seen : word s limit-slot ≡ len → w < word s unused-slot → word s found-slot ≡ block-start log w → Watches w len s log
 
--- Base, end and U of s: s′ has the base b, the end e and the U of s.
+-- The lists m and the slots s are a state of a run that the rules can come to, with this log, and w is watched for.
+pub record Stands (vars w : ℕ) (m : List Words) (s : Words) (log : List Event) : Type 0 where
+  pub inv : Inv vars (length (column m 0)) (state-of m (word s unused-slot) log)
+  pub watches : Watches w (length (column m 0)) s log
+
+-- An outcome is what was answered, r with the slots s, over the lists m and some log: a result; the check in the slots, not passed; or no room.
+pub data Answers {A : Type 0} (Is : A → ℕ → Words → Type 0) (w : ℕ) (m : List Words) (r : ℕ) (s : Words) : Outcome A → Type 0 where
+  answers-ok : (x : A) (log : List Event) → Is x r s → r < failed → Watches w (length (column m 0)) s log → Answers Is w m r s (ok x (state-of m (word s unused-slot) log))
+  answers-failed : (log : List Event) → r ≡ failed → Watches w (length (column m 0)) s log → Answers Is w m r s (fails (check-in s) (state-of m (word s unused-slot) log))
+  answers-full : (log : List Event) → r ≡ full → Answers Is w m r s (no-room (state-of m (word s unused-slot) log))
+
+-- What only an allocation changes: U, and what is watched for.
+pub record Kept (s s′ : Words) : Type 0 where
+  pub unused : word s′ unused-slot ≡ word s unused-slot
+  pub limit : word s′ limit-slot ≡ word s limit-slot
+  pub found : word s′ found-slot ≡ word s found-slot
+
+-- s′ has the base b and the end e.
 pub record Bounded (b e : ℕ) (s s′ : Words) : Type 0 where
   pub room : length s′ ≡ slots
   pub base : word s′ base-slot ≡ b
   pub end : word s′ end-slot ≡ e
-  pub unused : word s′ unused-slot ≡ word s unused-slot
+  pub kept : Kept s s′
 
--- The result x without a step: r and the slots s′, with the U of s.
+-- The result x without a step: r and the slots s′.
 pub record Given {A : Type 0} (Is : A → ℕ → Words → Type 0) (x : A) (s : Words) (r : ℕ) (s′ : Words) : Type 0 where
   pub room : length s′ ≡ slots
   pub is : Is x r s′
   pub small : r < failed
-  pub unused : word s′ unused-slot ≡ word s unused-slot
+  pub kept : Kept s s′
 
 -- Whether words [w, w + k) lie within [b, e).
 abbrev pub within-bounds : ℕ → ℕ → ℕ → ℕ → Bool
 within-bounds b e w k = in-bounds (record { value = 0; base = b; end = e }) w k
 
--- s′ tells the check of node n for k words from w on, with base, end and U as in s.
+-- s′ tells the check of node n for k words from w on, with base and end as in s.
 pub record Told (n w k : ℕ) (s s′ : Words) : Type 0 where
   pub room : length s′ ≡ slots
-  pub unused : word s′ unused-slot ≡ word s unused-slot
+  pub kept : Kept s s′
   pub told : check-in s′ ≡ record { node = n; at = w; words = k; base = word s base-slot; end = word s end-slot }
+
+-- The struct that tells what the slots s do.
+pub record Tells (s : Words) (x : FailedCheck) : Type 0 where
+  pub check : check-told x ≡ check-in s
+  pub block : x .block ≡ word s found-slot
+
+-- Whether words from U up to `top` can be handed out. Past the limit they are looked at: if the memory has room for them, s′ has their start as
+-- found, and the memory's end as the limit.
+pub data Reserved (top len : ℕ) (s s′ : Words) : Bool → Type 0 where
+  below-limit : top < failed → top ≤ word s limit-slot → s′ ≡ s → Reserved top len s s′ true
+  past-limit : top < failed → word s limit-slot < top → top ≤ len → length s′ ≡ slots → word s′ unused-slot ≡ word s unused-slot → word s′ limit-slot ≡ len
+      → word s′ found-slot ≡ word s unused-slot → Reserved top len s s′ true
+  no-words : len < top → s′ ≡ s → Reserved top len s s′ false
 
 -- A node is finished, over the lists m, by the rules' step f: where its child's outcome was answered by v with the slots s, the node's is
 -- answered by r with s′. That the child's outcome is good is what the invariant gives; s₀ is the state that the child began with.
 pub record Finishes {A B : Type 0} (Child : A → ℕ → Words → Type 0) (Ok : ℕ → A → State → Type 0) (Node : B → ℕ → Words → Type 0)
     (f : A → State → Outcome B) (m : List Words) (v : ℕ) (s : Words) (r : ℕ) (s′ : Words) : Type 0 where
   pub room : length s′ ≡ slots
-  pub meets : (vars len : ℕ) (s₀ : State) (o : Outcome A) → Answers Child m v s o → Good vars len s₀ (Ok vars) o → Answers Node m r s′ (bind o f)
+  pub meets : (vars len w : ℕ) (s₀ : State) (o : Outcome A) → Answers Child w m v s o → Good vars len s₀ (Ok vars) o → Answers Node w m r s′ (bind o f)
 
 -- What each function that finishes a node answers, from what its child answered.
 

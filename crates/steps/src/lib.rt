@@ -1,6 +1,6 @@
 // The steps of evaluation: what is answered for one node from what its child answered.
 // A result is one number, below 2^32 a value or a place, else how evaluation ended. `s` are slots beside it: base and end of what was
-// worked out, U, and, where a check was not passed, that check.
+// worked out, U, where a check was not passed that check, and which block has a word that is watched for.
 ghost use mathlib.Core.Path.{_≡_};
 ghost use mathlib.Core.List.{List, [], map};
 ghost use Prim.Native.Nat.{_+_, _*_, _%_, _<_, _^_};
@@ -9,7 +9,7 @@ ghost use Rattle.words.specs.Columns.{column};
 ghost use Rattle.semantics.specs.Words.{Words, word};
 ghost use Rattle.semantics.specs.Table.{is-pointer};
 ghost use Rattle.semantics.specs.Rules.{Datum, unbounded, variable-location, contents};
-ghost use Rattle.steps.specs.Answers.{slots, failed, within-bounds, state-of, Datum-is, Location-is, Bounded, Given, Told, Deref-finishes, Field-finishes, Sum-finishes, Load-finishes, Cast-finishes, Malloc-finishes};
+ghost use Rattle.steps.specs.Answers.{slots, failed, within-bounds, state-of, Datum-is, Location-is, Bounded, Given, Told, Tells, Reserved, Deref-finishes, Field-finishes, Sum-finishes, Load-finishes, Cast-finishes, Malloc-finishes};
 use words::long;
 use words::low;
 use words::narrow;
@@ -24,7 +24,7 @@ pub const BASES: usize = 1;
 pub const ENDS: usize = 2;
 
 // The slots. Of a place wanted, which can exceed 32 bits, the lower and the upper half.
-pub type Slots = [u32; 7];
+pub type Slots = [u32; 9];
 
 pub const BASE: usize = 0;
 
@@ -39,6 +39,22 @@ const LOW: usize = 4;
 const HIGH: usize = 5;
 
 const WORDS: usize = 6;
+
+// Up to where words are handed out as a matter of course, and the start of the block that has the word watched for, or 0.
+const LIMIT: usize = 7;
+
+const FOUND: usize = 8;
+
+// A check that was not passed: its node, the place and the number of words wanted, and the bounds; and the start of the block that has the word
+// watched for, or 0.
+pub struct FailedCheck {
+    pub node: u32,
+    pub place: u64,
+    pub words: u32,
+    pub base: u32,
+    pub end: u32,
+    pub block: u32,
+}
 
 // How evaluation ended: with a check that was not passed, or with no room.
 pub const FAILED: u64 = 4294967296;
@@ -113,6 +129,21 @@ fn fail(n: usize, w: u64, k: u32, s: &mut Slots) -> u64
     s[HIGH] = low(w / MODULUS);
     s[WORDS] = k;
     FAILED
+}
+
+// What the slots tell of it.
+pub fn failure(s: &Slots) -> FailedCheck
+    requires { ⌜ length (now s) ≡ slots ⌝ }
+    ensures { λ r. ⌜ Tells (now (s .entry)) r ⌝ }
+{
+    FailedCheck {
+        node: s[NODE],
+        place: long(s[LOW]) + long(s[HIGH]) * MODULUS,
+        words: s[WORDS],
+        base: s[BASE],
+        end: s[END],
+        block: s[FOUND],
+    }
 }
 
 // What stands at word w, with its bounds where its type is a pointer's.
@@ -205,6 +236,23 @@ pub fn drop_bounds(v: u64, s: &mut Slots) -> u64
     v
 }
 
+// Whether a memory of len words has room for a block from U up to `top`. One that ends past the limit, if there is room, has the word that is
+// watched for: its start is kept, and nothing is watched for any more.
+fn has_room(top: u64, len: usize, s: &mut Slots) -> bool
+    requires { ⌜ (len < 2 ^ 32) × (length (now s) ≡ slots) ⌝ }
+    ensures { λ r. ⌜ Reserved top len (now (s .entry)) (now (s .exit)) r ⌝ }
+{
+    if top <= long(s[LIMIT]) {
+        return true;
+    }
+    if top <= len as u64 {
+        s[FOUND] = s[UNUSED];
+        s[LIMIT] = narrow(len);
+        return true;
+    }
+    false
+}
+
 // A block of v words at U, in a memory of len words.
 pub fn allocate(v: u64, len: usize, s: &mut Slots) -> u64
     requires { ⌜ (len < 2 ^ 32) × (length (now s) ≡ slots) ⌝ }
@@ -218,7 +266,7 @@ pub fn allocate(v: u64, len: usize, s: &mut Slots) -> u64
     }
     let u = s[UNUSED];
     let top = long(u) + v;
-    if top <= len as u64 {
+    if has_room(top, len, s) {
         bound(u, low(top), s);
         s[UNUSED] = low(top);
         return long(u);

@@ -55,13 +55,13 @@ module _ {M : Type 1} (𝓤 : URA M) (H : Heap 𝓤) (A : Atoms 𝓤) (W : Given
   Caller = tripleOf 𝓤 H A caller.signature (caller.spec 𝓤 H A mem run)
 
   module _ (C : Calls 𝓤 H) (Λ : Loops 𝓤 H) (fm : FmC 𝓤 H (W .laws) C) (known : Triple 𝓤 (C #callee) Callee)
-      (κs : Lfts 6) (qs : Shares 6) (bounds : AllOutlive 6 (caller.signature .outlives) κs) (t : RefT (List ℕ)) (at total : ℕ) (l : RefT (List (RefT (List ℕ)))) (first : ℕ) (values bases ends : RefT (List ℕ)) where
+      (κs : Lfts 6) (qs : Shares 6) (bounds : AllOutlive 6 (caller.signature .outlives) κs) (t : RefT (List ℕ)) (at total : ℕ) (l : RefT (List (RefT (List ℕ)))) (first watched : ℕ) (values bases ends : RefT (List ℕ)) where
     -- What both require, and what both ensure of the lists m.
     abbrev Requires : Type 0
-    Requires = Executable (now t) (map now (now l)) at total first (lists (now values) (now bases) (now ends))
+    Requires = Executable (now t) (map now (now l)) at total first watched (lists (now values) (now bases) (now ends))
 
     abbrev Ensures : Ended → List (List ℕ) → Type 0
-    Ensures r m = Executed (now t) (lists (now values) (now bases) (now ends)) first r m
+    Ensures r m = Executed (now t) (lists (now values) (now bases) (now ends)) first watched r m
 
     -- The lists, each with its lifetime and a share of the token.
     abbrev v : Lent ℕ
@@ -78,25 +78,25 @@ module _ {M : Type 1} (𝓤 : URA M) (H : Heap 𝓤) (A : Atoms 𝓤) (W : Given
     behind-l = Array (ShrSlice (named 2) (κs .1 .1 .0) u32) 7
 
     abbrev a : Args caller.signature κs
-    a = (t, (at, (total, (l, (first, (values, (bases, (ends, tt))))))))
+    a = (t, (at, (total, (l, (first, (watched, (values, (bases, (ends, tt)))))))))
 
     meets-at : (vss : Vals caller.signature κs) → ent 𝓤 (Caller .pre ((κs, qs, bounds, a, vss), tt)) (WpFn 𝓤 H C Λ code.function (Caller .args ((κs, qs, bounds, a, vss), tt)) (Caller .post ((κs, qs, bounds, a, vss), tt)))
     meets-at vss = needs 𝓤 Requires _ (λ req. said 𝓤 H A caller.signature κs qs
-        (slice-vals, (uint-vals w64, (uint-vals w32, (ptr-vals, (uint-vals w32, (slice-vals, (slice-vals, (slice-vals, tt))))))))
-        (shr-slice-tells (named 0) (κs .0) u32, (uint-tells w64, (uint-tells w32, (shr-tells (named 1) (κs .1 .0) behind-l, (uint-tells w32, (mut-slice-tells (named 3) (v .life) u32, (mut-slice-tells (named 4) (b .life) u32, (mut-slice-tells (named 5) (e .life) u32, tt))))))))
+        (slice-vals, (uint-vals w64, (uint-vals w32, (ptr-vals, (uint-vals w32, (uint-vals w32, (slice-vals, (slice-vals, (slice-vals, tt)))))))))
+        (shr-slice-tells (named 0) (κs .0) u32, (uint-tells w64, (uint-tells w32, (shr-tells (named 1) (κs .1 .0) behind-l, (uint-tells w32, (uint-tells w32, (mut-slice-tells (named 3) (v .life) u32, (mut-slice-tells (named 4) (b .life) u32, (mut-slice-tells (named 5) (e .life) u32, tt)))))))))
         a (λ us. WpFn 𝓤 H C Λ code.function (flat (typesAt (caller.signature .params) κs) us) (Caller .post ((κs, qs, bounds, a, us), tt))) vss (λ are.
         lends-on 𝓤 H A W C Λ fm #callee (flft (κs .0) (qs .0) ∷ flft (κs .1 .0) (qs .1 .0) ∷ flft (κs .1 .1 .0) (qs .1 .1 .0) ∷ [])
-        (ShrSlice (named 0) (κs .0) u32 ∷ usize ∷ u32 ∷ ShrRef (named 1) (κs .1 .0) behind-l ∷ u32 ∷ [])
-        (shr-slice-lawful 𝓤 H A W (named 0) (κs .0) u32, (uint-lawful 𝓤 H A W w64, (uint-lawful 𝓤 H A W w32, (shr-lawful 𝓤 H A W (named 1) (κs .1 .0) behind-l, (uint-lawful 𝓤 H A W w32, tt)))))
-        (t, (at, (total, (l, (first, tt))))) (slice-vals t, (uint-vals w64 at, (uint-vals w32 total, (ptr-vals l, (uint-vals w32 first, tt))))) (are .0, (are .1 .0, (are .1 .1 .0, (are .1 .1 .1 .0, (are .1 .1 .1 .1 .0, tt)))))
+        (ShrSlice (named 0) (κs .0) u32 ∷ usize ∷ u32 ∷ ShrRef (named 1) (κs .1 .0) behind-l ∷ u32 ∷ u32 ∷ [])
+        (shr-slice-lawful 𝓤 H A W (named 0) (κs .0) u32, (uint-lawful 𝓤 H A W w64, (uint-lawful 𝓤 H A W w32, (shr-lawful 𝓤 H A W (named 1) (κs .1 .0) behind-l, (uint-lawful 𝓤 H A W w32, (uint-lawful 𝓤 H A W w32, tt))))))
+        (t, (at, (total, (l, (first, (watched, tt)))))) (slice-vals t, (uint-vals w64 at, (uint-vals w32 total, (ptr-vals l, (uint-vals w32 first, (uint-vals w32 watched, tt)))))) (are .0, (are .1 .0, (are .1 .1 .0, (are .1 .1 .1 .0, (are .1 .1 .1 .1 .0, (are .1 .1 .1 .1 .1 .0, tt))))))
         u32 (named 3) (named 4) (named 5) v b e ended.the-row (enum-laws.lawful ended.the-type ended-laws.the-laws 𝓤 H A W tt) Ensures Requires
         (λ m g. known (
           (
             (κs .0, (κs .1 .0, (κs .1 .1 .0, (g .call ∷ [], (g .call ∷ [], tt))))),
             (qs .0, (qs .1 .0, (qs .1 .1 .0, (PosShare·left fullShare, (PosShare·right fullShare, tt))))),
             (bounds .0, (incl-refl (g .call ∷ []), tt)),
-            (t, (at, (total, (l, (first, (array-ref u32 (v ∷ b ∷ e ∷ []) m g, tt)))))),
-            (slice-vals t, (uint-vals w64 at, (uint-vals w32 total, (ptr-vals l, (uint-vals w32 first, (vptr m 0 ∷ [], tt)))))),
+            (t, (at, (total, (l, (first, (watched, (array-ref u32 (v ∷ b ∷ e ∷ []) m g, tt))))))),
+            (slice-vals t, (uint-vals w64 at, (uint-vals w32 total, (ptr-vals l, (uint-vals w32 first, (uint-vals w32 watched, (vptr m 0 ∷ [], tt))))))),
           ),
           tt,
         ))
@@ -105,7 +105,7 @@ module _ {M : Type 1} (𝓤 : URA M) (H : Heap 𝓤) (A : Atoms 𝓤) (W : Given
   meets : (C : Calls 𝓤 H) (Λ : Loops 𝓤 H) → FmC 𝓤 H (W .laws) C → Triple 𝓤 (C #callee) Callee → Triple 𝓤 (WpFn 𝓤 H C Λ code.function) Caller
   meets C Λ fm known y =
       let a : Args caller.signature (y .0 .0) = y .0 .3 in
-      meets-at C Λ fm known (y .0 .0) (y .0 .1) (y .0 .2) (a .0) (a .1 .0) (a .1 .1 .0) (a .1 .1 .1 .0) (a .1 .1 .1 .1 .0) (a .1 .1 .1 .1 .1 .0) (a .1 .1 .1 .1 .1 .1 .0) (a .1 .1 .1 .1 .1 .1 .1 .0) (y .0 .4)
+      meets-at C Λ fm known (y .0 .0) (y .0 .1) (y .0 .2) (a .0) (a .1 .0) (a .1 .1 .0) (a .1 .1 .1 .0) (a .1 .1 .1 .1 .0) (a .1 .1 .1 .1 .1 .0) (a .1 .1 .1 .1 .1 .1 .0) (a .1 .1 .1 .1 .1 .1 .1 .0) (a .1 .1 .1 .1 .1 .1 .1 .1 .0) (y .0 .4)
 
 pub execute-spec : {M : Type 1} → stated.statement M
 unfolding code.routine tablesOf

@@ -11,12 +11,14 @@ execute-requires c κs =
     let p = c .before .before .before .before .before .before .before .before .before .before .before .before .before .before .before .before .before .before .before .before .pre in
     let k = commands-stand (p .program) (p .layout-is) in
     record {
-      lists-of = lists-are (p .program) (p .layout-is) (c .before .before .before .before .before .before .before .t37 .given .0) (c .before .before .before .before .before .before .t39 .given .0) (c .before .before .before .before .before .t41 .given .0) (c .before .before .before .before .before .before .before .before .before .before .t25 .given .0) refl refl refl;
+      lists-of = lists-are (p .program) (p .layout-is) (c .before .before .before .before .before .before .before .t38 .given .0) (c .before .before .before .before .before .before .t40 .given .0) (c .before .before .before .before .before .t42 .given .0) (c .before .before .before .before .before .before .before .before .before .before .t26 .given .0) refl refl refl;
       first = k .first;
       all = c .before .before .before .before .narrow .ensures ∙ k .total;
       log = p .log;
       inv = p .inv;
       most = p .most;
+      from = p .from;
+      upto = p .upto;
     }
 
 returns : tie.Need-returns

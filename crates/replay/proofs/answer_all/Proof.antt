@@ -7,40 +7,18 @@ use Rattle.replay.proofs.answer_all.Statement.{statement}
 use Rattle.replay.proofs.answer_all.Tie as tie
 
 abbrev Inv-loop : tie.InvT-loop
-Inv-loop buffer₀ numbers₀ values₀ bases₀ ends₀ out₀ p₀ part₀ turns₀ buffer numbers values bases ends out p part turns =
+Inv-loop buffer₀ numbers₀ values₀ bases₀ ends₀ out₀ at₀ part₀ turns₀ buffer numbers values bases ends out at part turns =
     (length buffer ≡ length buffer₀) × (length numbers ≡ length numbers₀) × (length values ≡ length values₀) × (length bases ≡ length bases₀) × (length ends ≡ length ends₀) × (length out ≡ length out₀)
 
 abbrev μ-loop : tie.MeasureT-loop
-μ-loop buffer₀ numbers₀ values₀ bases₀ ends₀ out₀ p₀ part₀ turns₀ buffer numbers values bases ends out p part turns = turns
+μ-loop buffer₀ numbers₀ values₀ bases₀ ends₀ out₀ at₀ part₀ turns₀ buffer numbers values bases ends out at part turns = turns
+
+loop-again : tie.Need-loop-again Inv-loop μ-loop
+loop-again c = omega (arith, c .before .before .before .before .before .before .before .before .before .before .before .before .before .before .before .before .before .before .before .before .before .before .before .before .before .loop .inv, c .before .before .before .before .before .before .before .before .before .before .before .before .before .before .before .before .before .before .before .next-line .kept, c .before .before .before .before .before .before .before .before .answer-line .kept)
 
 pub answer-all-spec : {M : Type 1} → statement M
 answer-all-spec =
     tie.close
     (tie.spec
     Inv-loop
-    μ-loop
-    (λ c κs. search needs)  -- new-requires
-    (λ c κs. search needs)  -- new-requires-2
-    (λ c. search needs)  -- loop-holds
-    (λ c κs. search needs)  -- next-part-requires
-    (λ c. search needs)  -- sub-take-part
-    (λ c. search needs)  -- part-take-part-start
-    (λ c. search needs)  -- part-take-part-end
-    (λ c κs. search needs)  -- take-part-requires
-    (λ c. search needs)  -- sub-turns
-    (λ c. search needs)  -- loop-less
-    (λ c. omega (arith, c .before .before .before .before .before .before .before .before .before .before .before .before .before .before .before .before .before .before .before .before .before .before .before .before .before .loop .inv, c .before .before .before .before .before .before .before .before .before .before .before .before .before .before .before .before .before .before .before .before .next-part .kept, c .before .before .before .before .before .before .before .before .before .before .take-part .kept))  -- loop-again
-    (λ c. search needs)  -- same-length
-    (λ c. search needs)  -- same-length-2
-    (λ c. search needs)  -- same-length-3
-    (λ c. search needs)  -- same-length-4
-    (λ c. search needs)  -- same-length-5
-    (λ c. search needs)  -- same-length-6
-    (λ c. search needs)  -- returns
-    (λ c. search needs)  -- same-length-7
-    (λ c. search needs)  -- same-length-8
-    (λ c. search needs)  -- same-length-9
-    (λ c. search needs)  -- same-length-10
-    (λ c. search needs)  -- same-length-11
-    (λ c. search needs)  -- same-length-12
-    (λ c. search needs))  -- returns-2
+    μ-loop (λ c κs. search needs) (λ c. search needs) (λ c κs. search needs) (λ c κs. search needs) (λ c. search needs) (λ c. search needs) loop-again (λ c. search needs) (λ c. search needs) (λ c. search needs) (λ c. search needs) (λ c. search needs) (λ c. search needs) (λ c. search needs) (λ c. search needs) (λ c. search needs) (λ c. search needs) (λ c. search needs) (λ c. search needs) (λ c. search needs) (λ c. search needs))

@@ -1,2 +1,4 @@
 -- What the contracts of this crate cite.
-pub mod Case
+pub mod Ascii
+pub mod Owners
+pub mod Told

@@ -1,17 +1,17 @@
--- `replay::after_bytes` is safe and ends. Assumes nothing.
+-- `cases::after_bytes` is safe and ends. Assumes nothing.
 use Prim.Native.Nat.{_-_}
 use mathlib.Core.Path.{_≡_}
 use lib.ListN.{length}
 use borrow.Author.Needs.{needs}
-use Rattle.replay.proofs.after_bytes.Statement.{statement}
-use Rattle.replay.proofs.after_bytes.Tie as tie
+use Rattle.cases.proofs.after_bytes.Statement.{statement}
+use Rattle.cases.proofs.after_bytes.Tie as tie
 
 abbrev Inv-loop : tie.InvT-loop
-Inv-loop state bytes state₀ i₀ i-end state' i =
+Inv-loop spacing bytes spacing₀ i₀ i-end spacing' i =
     i-end ≡ length bytes
 
 abbrev μ-loop : tie.MeasureT-loop
-μ-loop state bytes state₀ i₀ i-end state' i = i-end - i
+μ-loop spacing bytes spacing₀ i₀ i-end spacing' i = i-end - i
 
 pub after-bytes-spec : {M : Type 1} → statement M
 after-bytes-spec =

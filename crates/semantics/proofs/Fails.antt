@@ -1,0 +1,117 @@
+-- By which check a tree or a command fails: one of its own that is not passed, or that of the child that failed.
+use Prim.Native.Nat.{ℕ, _+_}
+use mathlib.Core.Bool.{Bool, true, false}
+use mathlib.Core.Path.{_≡_, refl, ap}
+use native.Mathlib.Omega.{arith}
+use lib.Dec.{leb, eqb}
+use lib.ListN.{length}
+use Rattle.semantics.specs.Words.{if_then_else_}
+use Rattle.semantics.specs.Syntax.{Place, Variable, Deref, Field, NoPlace, Value, Number, Sum, Read, Address, Cast, Malloc, NoValue}
+use Rattle.semantics.specs.Rules.{Datum, unbounded, block-pointer, Location, Bounds-check, tested, State, noted, Outcome, ok, fails, no-room, no-rule, bind, check-of, checked, deref-step, field-step, touchable, read-step, sum-step, cast-step, with-block, malloc-step, place-at, value-at, assign-step, assign}
+use Rattle.semantics.specs.Log.{Own-check, Place-fails, deref-check, deref-child, field-check, field-child, Value-fails, sum-left, sum-right, read-place, address-place, cast-child, malloc-child, Assign-fails, in-place, in-value}
+use Rattle.semantics.proofs.Tests.{Check-made, check-passed, check-missed, check-made}
+use Rattle.semantics.proofs.Places.{one-event}
+
+-- ---- outcomes
+
+module _ {A : Type 0} {x : Bounds-check} {s s′ : State} where
+  pub ok-not : {a : A} → ok a s ≡ fails x s′ → ⊥
+  ok-not e = let z : _≡_ {A = ℕ} 0 1 = cc in omega arith
+
+  pub no-room-not : _≡_ {A = Outcome A} (no-room s) (fails x s′) → ⊥
+  no-room-not e = let z : _≡_ {A = ℕ} 0 1 = cc in omega arith
+
+  pub no-rule-not : _≡_ {A = Outcome A} (no-rule s) (fails x s′) → ⊥
+  no-rule-not e = let z : _≡_ {A = ℕ} 0 1 = cc in omega arith
+
+-- Two steps of which one fails: the first, or the second after the first was ok.
+data Either-fails {A B : Type 0} (o : Outcome A) (f : A → State → Outcome B) (x : Bounds-check) (s′ : State) : Type 0 where
+  first : o ≡ fails x s′ → Either-fails o f x s′
+  second : (a : A) (s : State) → o ≡ ok a s → f a s ≡ fails x s′ → Either-fails o f x s′
+
+either : {A B : Type 0} (o : Outcome A) (f : A → State → Outcome B) {x : Bounds-check} {s′ : State} → bind o f ≡ fails x s′ → Either-fails o f x s′
+either (ok a s) f e = second a s refl e
+either (fails y s) f e = first cc
+either (no-room s) f e = absurd (no-room-not e)
+either (no-rule s) f e = absurd (no-rule-not e)
+
+-- The first, if the second never does.
+only-first : {A B : Type 0} (o : Outcome A) (f : A → State → Outcome B) {x : Bounds-check} {s′ : State} → ((a : A) (s : State) → f a s ≡ fails x s′ → ⊥)
+    → bind o f ≡ fails x s′ → o ≡ fails x s′
+only-first o f {x} {s′} never e = go (either o f e)
+  where
+    go : Either-fails o f x s′ → o ≡ fails x s′
+    go (first q) = q
+    go (second a s q r) = absurd (never a s r)
+
+-- ---- steps that never fail
+
+touched-not : {A : Type 0} (b : Bool) (a : A) (s s₁ : State) {x : Bounds-check} {s′ : State} → (if b then ok a s₁ else no-rule s) ≡ fails x s′ → ⊥
+touched-not true a s s₁ e = ok-not e
+touched-not false a s s₁ e = no-rule-not e
+
+cast-not : (keeps : Bool) (p : Datum) (s : State) {x : Bounds-check} {s′ : State} → cast-step keeps p s ≡ fails x s′ → ⊥
+cast-not true p s e = ok-not e
+cast-not false p s e = ok-not e
+
+malloc-not : (d : Datum) (s : State) {x : Bounds-check} {s′ : State} → malloc-step d s ≡ fails x s′ → ⊥
+unfolding malloc-step
+malloc-not d s {x} {s′} e = go (eqb (d .value) 0) (leb (s .unused + d .value) (length (s .values))) e
+  where
+    go : (none fits : Bool) → (if none then ok (unbounded 0) s else if fits then ok (block-pointer (s .unused) (d .value)) (with-block (d .value) s) else no-room s) ≡ fails x s′ → ⊥
+    go true fits q = ok-not q
+    go false true q = ok-not q
+    go false false q = no-room-not q
+
+-- ---- a check that fails
+
+own-check : (n : ℕ) (v : Value) (offset k : ℕ) (s : State) (p : Datum) (s₁ : State) (w : ℕ) (l : Location) {x : Bounds-check} {s′ : State} → w ≡ p .value + offset
+    → value-at v s ≡ ok p s₁ → checked n p w k l s₁ ≡ fails x s′ → Own-check n v offset k s x s′
+own-check n v offset k s p s₁ w l {x} {s′} at child e = go (check-made n p w k l s₁) e
+  where
+    go : {o : Outcome Location} → Check-made n p w k l s₁ o → o ≡ fails x s′ → Own-check n v offset k s x s′
+    go (check-passed from upto) q = absurd (ok-not q)
+    go (check-missed miss) q =
+        let same : check-of n p w k ≡ x = cc in
+        let state : noted (tested (check-of n p w k)) s₁ ≡ s′ = cc in
+        rw (← state, ← same)
+        (record { pointer = p; s₁ = s₁; child = child; is = ap (λ i. check-of n p i k) at; not-passed = miss; event = one-event _ s₁ })
+
+-- ---- trees
+
+pub failing-places : (p : Place) (s : State) (x : Bounds-check) (s′ : State) → place-at p s ≡ fails x s′ → Place-fails s x s′ p
+unfolding place-at deref-step field-step
+failing-places (Variable n i) s x s′ e = absurd (ok-not e)
+failing-places (Deref n v) s x s′ e = go (either (value-at v s) _ e)
+  where
+    go : Either-fails (value-at v s) (deref-step n) x s′ → Place-fails s x s′ (Deref n v)
+    go (first q) = deref-child q
+    go (second p s₁ q r) = deref-check (own-check n v 0 1 s p s₁ (p .value) _ (omega arith) q r)
+failing-places (Field n offset k v) s x s′ e = go (either (value-at v s) _ e)
+  where
+    go : Either-fails (value-at v s) (field-step n offset k) x s′ → Place-fails s x s′ (Field n offset k v)
+    go (first q) = field-child q
+    go (second p s₁ q r) = field-check (own-check n v offset k s p s₁ (p .value + offset) _ refl q r)
+failing-places NoPlace s x s′ e = absurd (no-rule-not e)
+
+pub failing-values : (v : Value) (s : State) (x : Bounds-check) (s′ : State) → value-at v s ≡ fails x s′ → Value-fails s x s′ v
+unfolding value-at read-step
+failing-values (Number n i) s x s′ e = absurd (ok-not e)
+failing-values (Sum n step a b) s x s′ e = go (either (value-at a s) _ e)
+  where
+    go : Either-fails (value-at a s) (λ p s₁. bind (value-at b s₁) (sum-step step p)) x s′ → Value-fails s x s′ (Sum n step a b)
+    go (first q) = sum-left q
+    go (second p s₁ q r) = sum-right p s₁ q (only-first (value-at b s₁) (sum-step step p) (λ d s₂ never. ok-not never) r)
+failing-values (Read n pointer p) s x s′ e = read-place (only-first (place-at p s) _ (λ l s₁. touched-not (touchable s₁ (l .at)) _ s₁ _) e)
+failing-values (Address n p) s x s′ e = address-place (only-first (place-at p s) _ (λ l s₁ never. ok-not never) e)
+failing-values (Cast n keeps v) s x s′ e = cast-child (only-first (value-at v s) _ (λ d s₁. cast-not keeps d s₁) e)
+failing-values (Malloc n v) s x s′ e = malloc-child (only-first (value-at v s) _ (λ d s₁. malloc-not d s₁) e)
+failing-values NoValue s x s′ e = absurd (no-rule-not e)
+
+pub failing-commands : (pointer : Bool) (p : Place) (v : Value) (s : State) (x : Bounds-check) (s′ : State) → assign pointer p v s ≡ fails x s′ → Assign-fails p v s x s′
+unfolding assign assign-step
+failing-commands pointer p v s x s′ e = go (either (place-at p s) _ e)
+  where
+    go : Either-fails (place-at p s) (λ l s₁. bind (value-at v s₁) (assign-step pointer l)) x s′ → Assign-fails p v s x s′
+    go (first q) = in-place q
+    go (second l s₁ q r) = in-value l s₁ q (only-first (value-at v s₁) _ (λ d s₂. touched-not (touchable s₂ (l .at)) tt s₂ _) r)

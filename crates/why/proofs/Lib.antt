@@ -1,0 +1,6 @@
+-- Laws that the functions' proofs cite.
+pub mod Owners
+pub mod Told
+pub mod Room
+pub mod Calls
+pub mod Examples
