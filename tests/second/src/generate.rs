@@ -3,12 +3,14 @@
 mod damage;
 mod deep;
 mod expression;
+mod known;
 mod pointer;
 mod random;
 mod registers;
 mod routine;
 mod soup;
 mod steps;
+mod stray;
 mod types;
 
 use crate::text::{Call, Case};
@@ -46,9 +48,11 @@ fn case(random: &mut Random) -> Case {
         5 => large(random),
         _ => shuffled(random, deep::routine).case(),
     };
-    if random.percent(20) {
-        case.call = Call::Check;
-    }
+    case.call = match random.weighted(&[38, 16, 46]) {
+        0 => Call::Run,
+        1 => Call::Check,
+        _ => Call::Explain,
+    };
     if random.percent(5) {
         case.blocks = random.below(201);
     }
@@ -75,6 +79,9 @@ fn large(random: &mut Random) -> Case {
     let mut routine = Routine::new(random, types, room);
     let count = random.pick(&[40, 100, 256]);
     routine.grow(random, count);
+    if random.percent(40) {
+        routine.end(random);
+    }
     routine.fill(random, count);
     if random.percent(50) {
         routine.shuffle(random);

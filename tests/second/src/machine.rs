@@ -1,20 +1,25 @@
-//! The check and the run of document 01, with registers handed in and with
-//! steps by records. No input or output happens here.
+//! The check and the run of document 01, with registers handed in, with steps
+//! by records and with a reason for every abort. No input or output happens
+//! here.
 //!
 //! [`check`] judges a table alone. [`run`] is the whole call: the check, the
-//! conditions on the call (10, 11, 13 to 15), then the routine. Both work in
-//! buffers that are used again from call to call; [`Machine`] lends them out
-//! one by one, so that checking and executing can also be done, and timed,
-//! apart.
+//! conditions on the call (10, 11, 13 to 15), then the routine. [`explain`] is
+//! the same call, and tells of an abort which check was not passed and why. All
+//! work in buffers that are used again from call to call; [`Machine`] lends
+//! them out one by one, so that checking and executing can also be done, and
+//! timed, apart.
 
 mod check;
 mod declarations;
 mod execute;
+mod explain;
 mod layout;
 mod registers;
 
 use declarations::Declarations;
 use execute::Memory;
+pub use explain::{Explanation, Reason};
+use explain::{Notes, Watch};
 use layout::{Layout, MAX_NODES};
 use registers::Registers;
 use std::cell::RefCell;
@@ -114,6 +119,22 @@ pub fn run(
     })
 }
 
+/// The whole call with a reason: the answer and the lists are those of [`run`],
+/// and an abort, no other ending, comes with its explanation.
+pub fn explain(
+    table: &[u32],
+    inputs: &[u32],
+    registers: &[u32],
+    values: &mut [u32],
+    bases: &mut [u32],
+    ends: &mut [u32],
+) -> (Answer, Option<Explanation>) {
+    MACHINE.with_borrow_mut(|machine| match machine.check(table) {
+        Ok(checked) => checked.explain(inputs, registers, values, bases, ends),
+        Err(refusal) => (Answer::Refused(refusal), None),
+    })
+}
+
 impl Default for Machine {
     fn default() -> Machine {
         Machine::new()
@@ -152,11 +173,39 @@ impl Checked<'_, '_> {
         bases: &mut [u32],
         ends: &mut [u32],
     ) -> Answer {
+        self.watched(inputs, registers, values, bases, ends, ())
+    }
+
+    /// The same, and why the run aborted if it did.
+    fn explain(
+        &self,
+        inputs: &[u32],
+        registers: &[u32],
+        values: &mut [u32],
+        bases: &mut [u32],
+        ends: &mut [u32],
+    ) -> (Answer, Option<Explanation>) {
+        let mut notes = Notes::new(self.layout.variables.len());
+        let answer = self.watched(inputs, registers, values, bases, ends, &mut notes);
+        (answer, notes.explanation)
+    }
+
+    #[inline(always)]
+    fn watched(
+        &self,
+        inputs: &[u32],
+        registers: &[u32],
+        values: &mut [u32],
+        bases: &mut [u32],
+        ends: &mut [u32],
+        mut watch: impl Watch,
+    ) -> Answer {
         let lengths = [values.len(), bases.len(), ends.len()];
         match self.admit(inputs, registers, lengths) {
             Ok(registers) => {
-                let unused = begin(inputs, registers, values, bases, ends);
-                Memory::new(self, values, bases, ends, unused).execute(self.layout.commands)
+                let unused = begin(inputs, registers, values, bases, ends, &mut watch);
+                let mut memory = Memory::new(self, values, bases, ends, unused, watch);
+                memory.execute(self.layout.commands)
             }
             Err(refusal) => Answer::Refused(refusal),
         }
@@ -197,6 +246,7 @@ fn begin(
     values: &mut [u32],
     bases: &mut [u32],
     ends: &mut [u32],
+    watch: &mut impl Watch,
 ) -> u32 {
     bases.fill(0);
     ends.fill(0);
@@ -213,6 +263,7 @@ fn begin(
             values[w] = base as u32;
             bases[w] = base as u32;
             ends[w] = unused as u32;
+            watch.block(base as u32, words.len() as u32);
         }
     }
     values[unused..].fill(0);

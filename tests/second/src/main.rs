@@ -1,6 +1,7 @@
 //! `second answer`: cases from standard input, answers to standard output.
 //! `second generate SEED COUNT`: random cases to standard output.
-//! `second tally`: answers from standard input, counted by their kind.
+//! `second tally`: answers from standard input, counted by their kind and, where
+//! a run was explained, by the reason.
 
 use second::generate;
 use second::text::Answerer;
@@ -80,30 +81,54 @@ fn generate(seed: u64, count: u64) -> io::Result<()> {
     output.flush()
 }
 
-/// Counts answers by their first word, refusals by their number too, and aborts
-/// and no rooms also by whether a command was executed before.
+/// How many there are of each name.
+type Counts = BTreeMap<String, u64>;
+
+/// Counts answers by their kind, and explanations by their reason.
 fn tally() -> io::Result<()> {
-    let mut counts: BTreeMap<String, u64> = BTreeMap::new();
+    let mut answers = Counts::new();
+    let mut explanations = Counts::new();
     each_line(|line| {
         let text = String::from_utf8_lossy(line);
-        let mut words = text.split(' ');
-        let first = words.next().unwrap_or("");
-        let second = words.next().unwrap_or("");
-        let key = match first {
-            "refused" if line.ends_with(b"changed") => format!("refused {second:>2} changed"),
-            "refused" => format!("refused {second:>2}"),
-            "abort" | "noroom" if second == "0" => format!("{first} at command 0"),
-            "abort" | "noroom" => format!("{first} later"),
-            other => other.to_string(),
-        };
-        *counts.entry(key).or_default() += 1;
+        *answers.entry(kind(&text)).or_default() += 1;
+        if let Some(explanation) = text.split(" ; ").nth(2) {
+            *explanations.entry(reason(explanation)).or_default() += 1;
+        }
         Ok(())
     })?;
-    let all: u64 = counts.values().sum();
     let mut output = io::stdout().lock();
-    for (key, count) in &counts {
+    print(&mut output, &answers, "answers")?;
+    print(&mut output, &explanations, "explanations")
+}
+
+/// An answer's first word, of refusals with their number, of aborts and no
+/// rooms with whether a command was executed before.
+fn kind(answer: &str) -> String {
+    let mut words = answer.split(' ');
+    let first = words.next().unwrap_or("");
+    let second = words.next().unwrap_or("");
+    match first {
+        "refused" if answer.ends_with("changed") => format!("refused {second:>2} changed"),
+        "refused" => format!("refused {second:>2}"),
+        "abort" | "noroom" if second == "0" => format!("{first} at command 0"),
+        "abort" | "noroom" => format!("{first} later"),
+        other => other.to_string(),
+    }
+}
+
+/// The reason is the last number but one.
+fn reason(explanation: &str) -> String {
+    match explanation.rsplit(' ').nth(1) {
+        Some(reason) => format!("reason {reason}"),
+        None => explanation.to_string(),
+    }
+}
+
+fn print(output: &mut impl Write, counts: &Counts, name: &str) -> io::Result<()> {
+    let all: u64 = counts.values().sum();
+    for (key, count) in counts {
         let percent = 100.0 * *count as f64 / all as f64;
         writeln!(output, "{count:>9} {percent:5.1}%  {key}")?;
     }
-    writeln!(output, "{all:>9} answers")
+    writeln!(output, "{all:>9} {name}")
 }

@@ -9,7 +9,7 @@
 //! - The limits and fixed fields hold for the check alone (CALL 1) too, since
 //!   a line has to be a case before any call is made.
 
-use crate::machine::{self, Answer, Refusal, Verdict};
+use crate::machine::{self, Answer, Explanation, Refusal, Verdict};
 
 const MAX_LIST: u32 = 65_537;
 const MAX_BLOCKS: u32 = 200;
@@ -24,6 +24,7 @@ pub enum Call {
     #[default]
     Run,
     Check,
+    Explain,
 }
 
 /// One case: LIGHT is 0, and LK tells nothing.
@@ -48,6 +49,7 @@ impl Case {
         self.call = match numbers.first()? {
             0 => Call::Run,
             1 => Call::Check,
+            2 => Call::Explain,
             _ => return None,
         };
         numbers.up_to(0)?; // LIGHT
@@ -63,9 +65,10 @@ impl Case {
 
     /// Writes the case as a line with its byte 10.
     pub fn write(&self, out: &mut Vec<u8>) {
-        let call = match self.call {
+        let call: u32 = match self.call {
             Call::Run => 0,
             Call::Check => 1,
+            Call::Explain => 2,
         };
         let [values, bases, ends] = self.lengths;
         write_number(out, call);
@@ -153,19 +156,21 @@ impl Answerer {
     pub fn answer(&mut self, line: &[u8], out: &mut Vec<u8>) {
         if self.case.read(line).is_none() {
             out.extend_from_slice(b"case");
-        } else if self.case.call == Call::Run {
-            self.run(out);
-        } else {
+        } else if self.case.call == Call::Check {
             match machine::check(&self.case.table) {
                 Verdict::Pass => out.extend_from_slice(b"pass"),
                 Verdict::Refused(refusal) => write_refusal(out, refusal),
             }
+        } else {
+            self.run(out);
         }
         out.push(b'\n');
     }
 
+    /// The run, explained where the case asks for it.
     fn run(&mut self, out: &mut Vec<u8>) {
         let Case {
+            call,
             lengths,
             inputs,
             registers,
@@ -176,7 +181,14 @@ impl Answerer {
         let values = lend(values, lengths[0]);
         let bases = lend(bases, lengths[1]);
         let ends = lend(ends, lengths[2]);
-        let answer = machine::run(table, inputs, registers, values, bases, ends);
+        let explained = *call == Call::Explain;
+        let (answer, explanation) = match explained {
+            true => machine::explain(table, inputs, registers, values, bases, ends),
+            false => (
+                machine::run(table, inputs, registers, values, bases, ends),
+                None,
+            ),
+        };
         if let Answer::Refused(refusal) = answer {
             write_refusal(out, refusal);
             let lent = [&*values, &*bases, &*ends];
@@ -186,6 +198,9 @@ impl Answerer {
         } else {
             let unused = write_ending(out, answer);
             write_memory(out, unused, [values, bases, ends]);
+            if explained {
+                write_explanation(out, explanation);
+            }
         }
     }
 }
@@ -233,17 +248,34 @@ fn write_memory(out: &mut Vec<u8>, unused: u32, [values, bases, ends]: [&mut [u3
     }
 }
 
-fn write_next(out: &mut Vec<u8>, number: u32) {
+/// Why the run aborted, or that it did not.
+fn write_explanation(out: &mut Vec<u8>, explanation: Option<Explanation>) {
+    out.extend_from_slice(b" ;");
+    let Some(told) = explanation else {
+        out.extend_from_slice(b" none");
+        return;
+    };
+    write_next(out, told.node);
+    write_next(out, told.place);
+    for number in [told.words, told.base, told.end] {
+        write_next(out, number);
+    }
+    write_next(out, told.reason as u32);
+    write_next(out, told.first);
+}
+
+fn write_next(out: &mut Vec<u8>, number: impl Into<u64>) {
     out.push(b' ');
     write_number(out, number);
 }
 
-fn write_number(out: &mut Vec<u8>, mut number: u32) {
+fn write_number(out: &mut Vec<u8>, number: impl Into<u64>) {
+    let mut number: u64 = number.into();
     if number < 10 {
         out.push(b'0' + number as u8);
         return;
     }
-    let mut digits = [0u8; 10];
+    let mut digits = [0u8; 20];
     let mut first = digits.len();
     while number > 0 {
         first -= 1;

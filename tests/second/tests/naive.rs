@@ -1,24 +1,26 @@
-//! The machine once more, as plainly as document 01 and requests 1 and 2 say it
-//! and as slow as that is, against the fast one on random cases.
+//! The machine once more, as plainly as document 01 and requests 1, 2 and 4 say
+//! it and as slow as that is, against the fast one on random cases.
 
 mod plain;
 
 use plain::{refuse, Found, Table};
 use second::generate;
-use second::machine::{self, Answer, Verdict};
+use second::machine::{self, Answer, Explanation, Reason, Verdict};
 use second::text::{Call, Case};
 
 /// Value or word, base, end.
 type Cell = [u64; 3];
 
 enum Stop {
-    Abort,
+    Abort(Explanation),
     NoRoom,
 }
 
 struct Run<'t> {
     table: &'t Table<'t>,
     cells: Vec<Cell>,
+    /// Word to the first word of the variable or block that it belongs to.
+    owners: Vec<u32>,
     unused: u64,
 }
 
@@ -42,12 +44,35 @@ impl Run<'_> {
         };
         let w = v + offset;
         if !(base <= w && w + words <= end) {
-            return Err(Stop::Abort);
+            return Err(self.abort(node, w, words, [base, end]));
         }
         Ok(if narrowed {
             [w, w, w + words]
         } else {
             [w, base, end]
+        })
+    }
+
+    fn abort(&self, node: usize, place: u64, words: u64, [base, end]: [u64; 2]) -> Stop {
+        let reason = if base == 0 && end == 0 {
+            Reason::NoBounds
+        } else if place < base {
+            Reason::BeforeBase
+        } else {
+            Reason::PastEnd
+        };
+        let first = match reason {
+            Reason::NoBounds => 0,
+            _ => self.owners[base as usize],
+        };
+        Stop::Abort(Explanation {
+            node: node as u32,
+            place,
+            words: words as u32,
+            base: base as u32,
+            end: end as u32,
+            reason,
+            first,
         })
     }
 
@@ -89,6 +114,7 @@ impl Run<'_> {
         let base = self.unused;
         for &word in &register.words {
             self.cells[self.unused as usize][0] = u64::from(word);
+            self.owners[self.unused as usize] = base as u32;
             self.unused += 1;
         }
         let variable = 1 + register.variable as usize;
@@ -110,6 +136,7 @@ impl Run<'_> {
         for cell in &mut self.cells[base as usize..self.unused as usize] {
             assert_eq!(*cell, [0; 3], "the new words are clear");
         }
+        self.owners[base as usize..self.unused as usize].fill(base as u32);
         Ok([base, base, self.unused])
     }
 
@@ -125,31 +152,33 @@ impl Run<'_> {
         Ok(())
     }
 
-    fn all(&mut self) -> Answer {
+    fn all(&mut self) -> (Answer, Option<Explanation>) {
         for i in 0..self.table.counts[5] {
             let [place, value] = [0, 1].map(|word| self.table.word(5, i, word) as usize);
             let stop = self.assign(place, value);
             let (command, unused) = (i as u32, self.unused as u32);
             match stop {
                 Ok(()) => {}
-                Err(Stop::Abort) => return Answer::Abort { command, unused },
-                Err(Stop::NoRoom) => return Answer::NoRoom { command, unused },
+                Err(Stop::Abort(told)) => return (Answer::Abort { command, unused }, Some(told)),
+                Err(Stop::NoRoom) => return (Answer::NoRoom { command, unused }, None),
             }
         }
         let unused = self.unused as u32;
-        Answer::Done { unused }
+        (Answer::Done { unused }, None)
     }
 }
 
-/// The answer of a call, and the memory a begun run leaves.
-fn call(case: &Case) -> (Answer, Vec<Cell>) {
+/// What an explained call answers, and the memory a begun run leaves.
+type Called = (Answer, Option<Explanation>, Vec<Cell>);
+
+fn call(case: &Case) -> Called {
     match begun(case) {
-        Ok(ending) => ending,
-        Err(refusal) => (Answer::Refused(refusal), Vec::new()),
+        Ok(called) => called,
+        Err(refusal) => (Answer::Refused(refusal), None, Vec::new()),
     }
 }
 
-fn begun(case: &Case) -> Found<(Answer, Vec<Cell>)> {
+fn begun(case: &Case) -> Found<Called> {
     let table = Table::check(&case.table)?;
     admit(case, &table)?;
     let registers = registers(&case.registers)?;
@@ -157,6 +186,7 @@ fn begun(case: &Case) -> Found<(Answer, Vec<Cell>)> {
     have_room(&registers, &table, case.lengths[0])?;
     let mut run = Run {
         cells: vec![[0; 3]; case.lengths[0] as usize],
+        owners: (0..case.lengths[0]).collect(),
         unused: 1 + table.counts[3] as u64,
         table: &table,
     };
@@ -166,8 +196,8 @@ fn begun(case: &Case) -> Found<(Answer, Vec<Cell>)> {
     for register in registers {
         run.hand_in(&register);
     }
-    let answer = run.all();
-    Ok((answer, run.cells))
+    let (answer, told) = run.all();
+    Ok((answer, told, run.cells))
 }
 
 fn admit(case: &Case, table: &Table) -> Found<()> {
@@ -260,23 +290,45 @@ fn compare(case: &Case, line: &str) {
         assert_eq!(machine::check(&case.table), verdict, "{line}");
         return;
     }
-    let [mut values, mut bases, mut ends] = case.lengths.map(|length| vec![7; length as usize]);
-    let answer = machine::run(
+    // Both calls, whichever of them the case has.
+    let (answer, told, cells) = call(case);
+    let mut lists = lists(case);
+    let [values, bases, ends] = &mut lists;
+    let ran = machine::run(
         &case.table,
         &case.inputs,
         &case.registers,
-        &mut values,
-        &mut bases,
-        &mut ends,
+        values,
+        bases,
+        ends,
     );
-    let (expected, cells) = call(case);
-    assert_eq!(answer, expected, "{line}");
+    assert_eq!(ran, answer, "{line}");
+    left(&lists, &cells, line);
+    let mut lists = self::lists(case);
+    let [values, bases, ends] = &mut lists;
+    let explained = machine::explain(
+        &case.table,
+        &case.inputs,
+        &case.registers,
+        values,
+        bases,
+        ends,
+    );
+    assert_eq!(explained, (answer, told), "{line}");
+    left(&lists, &cells, line);
+}
+
+fn lists(case: &Case) -> [Vec<u32>; 3] {
+    case.lengths.map(|length| vec![7; length as usize])
+}
+
+/// The lists are what a begun run leaves, or what they were.
+fn left(lists: &[Vec<u32>; 3], cells: &[Cell], line: &str) {
     for (word, cell) in cells.iter().enumerate() {
-        let found = [values[word], bases[word], ends[word]].map(u64::from);
+        let found = [0, 1, 2].map(|list| u64::from(lists[list][word]));
         assert_eq!(found, *cell, "word {word} of {line}");
     }
     if cells.is_empty() {
-        let lists = [values, bases, ends];
         assert!(lists.iter().flatten().all(|&word| word == 7), "{line}");
     }
 }

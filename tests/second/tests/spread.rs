@@ -1,13 +1,15 @@
 //! Random cases are worth something only if they get everywhere: to each
-//! refusal and each ending, to runs with registers, and to steps of all kinds.
+//! refusal and each ending, to runs with registers, to steps of all kinds, and
+//! to aborts for each reason, of all bounds and all over a command.
 
+mod aborts;
 mod by_words;
 mod plain;
 mod sums;
 
 use by_words::by_words;
 use second::generate;
-use second::text::{Answerer, Case};
+use second::text::{Answerer, Call, Case};
 use std::collections::BTreeMap;
 use sums::BY_RECORDS;
 
@@ -24,6 +26,8 @@ struct Spread {
     with_registers: u32,
     /// What happens in runs with steps by records.
     steps: Counts,
+    /// Explanations: `none`, or what is special about the abort.
+    explanations: Counts,
 }
 
 fn count(counts: &mut Counts, name: impl ToString) {
@@ -58,20 +62,39 @@ fn spread() -> Spread {
             case.read(line).expect("a case");
             spread.begun += 1;
             spread.with_registers += u32::from(case.registers[0] > 0);
-            spread.steps_of(&case, &answer);
+            spread.explanation_of(&case);
+            spread.steps_of(&mut case);
         }
     }
     spread
 }
 
 impl Spread {
+    fn explanation_of(&mut self, case: &Case) {
+        if case.call != Call::Explain {
+            return;
+        }
+        match aborts::explained(case) {
+            Some((command, told)) => {
+                let names = aborts::names(case, command, &told);
+                names
+                    .iter()
+                    .for_each(|name| count(&mut self.explanations, name));
+            }
+            None => count(&mut self.explanations, "none"),
+        }
+    }
+
     /// Counts a begun run by its sums. Its steps by records are telling where
-    /// it would have another answer if they went by words.
-    fn steps_of(&mut self, case: &Case, answer: &str) {
+    /// it would have another answer if they went by words. The answer is that
+    /// of the run: an explanation has other numbers of nodes then.
+    fn steps_of(&mut self, case: &mut Case) {
         let names = sums::names(case);
         if !names.contains(BY_RECORDS) {
             return;
         }
+        case.call = Call::Run;
+        let answer = answer_to(case);
         let ending = answer.split(' ').next().expect("a word");
         count(&mut self.steps, ending);
         if by_words(case).is_some_and(|line| self::answer(&line) != answer) {
@@ -82,6 +105,12 @@ impl Spread {
             names.iter().for_each(|name| count(&mut self.steps, name));
         }
     }
+}
+
+fn answer_to(case: &Case) -> String {
+    let mut line = Vec::new();
+    case.write(&mut line);
+    answer(line.strip_suffix(b"\n").expect("a line"))
 }
 
 fn more_than(counts: &Counts, least: &[(&str, u32)]) {
@@ -103,7 +132,40 @@ fn cases_get_everywhere() {
     }
     assert!(spread.begun > 4_000 && spread.with_registers > spread.begun / 2);
     steps_lead_everywhere(&spread.steps);
+    println!("explanations: {:#?}", spread.explanations);
+    more_than(&spread.explanations, &EXPLANATIONS);
 }
+
+/// At least so many explanations of each name.
+const EXPLANATIONS: [(&str, u32); 27] = [
+    ("none", 1_000),
+    ("follow, no bounds", 100),
+    ("follow, before the base", 150),
+    ("follow, past the end", 100),
+    ("field, no bounds", 50),
+    ("field, before the base", 100),
+    ("field, past the end", 80),
+    ("across the base", 30),
+    ("across the end", 15),
+    ("far past the end", 15),
+    ("above 32 bits", 10),
+    ("above 32 bits, and in bounds modulo 2^32", 1),
+    ("of a variable", 80),
+    ("of the first register", 80),
+    ("of a later register", 60),
+    ("of the first block", 80),
+    ("of a later block", 100),
+    ("of a field within", 25),
+    ("in a command's place", 300),
+    ("in a command's value", 200),
+    ("before the last command", 200),
+    ("after a check in its own pointer", 100),
+    ("in the pointer of another place", 100),
+    ("below a cast", 150),
+    ("on the left of a sum", 80),
+    ("on the right of a sum", 50),
+    ("in a count of words", 20),
+];
 
 fn steps_lead_everywhere(steps: &Counts) {
     println!("runs with steps by records: {steps:#?}");

@@ -24,6 +24,29 @@ fn endings() {
 }
 
 #[test]
+fn explanations() {
+    assert_eq!(
+        answer("2 0 1 1 1 0 0 1 0 6 0 0 0 0 0 0"),
+        "done 1 ; - ; none"
+    );
+    assert_eq!(answer("2 0 0 0 0 0 0 1 0 6 0 0 0 0 0 0"), "refused 10 0");
+    assert_eq!(answer("2 0 0 0 0 0 0 1 0 1 33"), "refused 3 0");
+    let m = "2 0 3 3 3 0 1 0 1 0 22 0 0 1 0 1 2 4 1 0 0 4 2 0 10 1 0 8 2 2 1 0 3";
+    assert_eq!(answer(m), "noroom 0 2 ; 0:0:0 ; none");
+    // `*(int*)0 = 1`
+    let forged = "2 0 3 3 3 0 0 1 0 21 0 0 1 0 0 4 4 0 0 8 0 2 2 1 0 4 1 0 1 2 3";
+    assert_eq!(answer(forged), "abort 0 1 ; - ; 2 0 1 0 0 1 0");
+    // `(p + 4294967295)->second = 1`: a record of fields of 3 words and of 1,
+    // and p at a register of two words.
+    let above = "2 0 4 4 4 0 1 0 5 1 0 2 8 9 \
+        33 1 2 2 0 3 0 1 1 65536 1 2 6 1 0 0 6 0 0 4 4294967295 0 5 1 2 3 3 1 4 1 0 1 4 5";
+    assert_eq!(
+        answer(above),
+        "abort 0 4 ; 2:2:4 8:0:0 9:0:0 ; 4 4294967297 1 2 4 3 2"
+    );
+}
+
+#[test]
 fn registers() {
     // One variable, pointer to void, and no commands.
     let line = |list: &str| answer(&format!("0 0 5 5 5 0 1 0 {list} 7 0 0 0 1 1 0 0"));
@@ -62,7 +85,8 @@ fn no_case() {
         "",
         " ",
         "x",
-        "2 0 1 1 1 0 0 1 0 6 0 0 0 0 0 0",
+        "3 0 1 1 1 0 0 1 0 6 0 0 0 0 0 0",
+        "2 1 1 1 1 0 0 1 0 6 0 0 0 0 0 0",
         "0 1 1 1 1 0 0 1 0 6 0 0 0 0 0 0",
         "0 0 65538 1 1 0 0 1 0 6 0 0 0 0 0 0",
         "0 0 1 65538 1 0 0 1 0 6 0 0 0 0 0 0",

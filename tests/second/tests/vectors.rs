@@ -53,6 +53,13 @@ fn before_steps(line: &[u8], change: fn(&mut Case)) -> Option<Vec<u8>> {
 }
 
 #[test]
+fn cases_with_explanations_agree() {
+    if let Some(folder) = folder() {
+        agree(&folder, "cr4", |line| Some(line.to_vec()));
+    }
+}
+
+#[test]
 fn cases_with_steps_by_records_agree() {
     if let Some(folder) = folder() {
         agree(&folder, "cr2", |line| Some(line.to_vec()));

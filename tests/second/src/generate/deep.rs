@@ -71,8 +71,7 @@ impl Deep<'_> {
     /// A value that wraps another again and again, then its assignment.
     fn chain(&mut self, goal: u32) {
         let style = self.random.below(4);
-        let mut value = self.read(0);
-        let mut typ = POINTER;
+        let (mut value, mut typ) = self.innermost();
         while (self.routine.nodes.len() as u32) < goal {
             (value, typ) = match typ {
                 INT => self.around_int(value, style),
@@ -88,6 +87,21 @@ impl Deep<'_> {
             _ => 3,
         };
         self.assign(variable, value);
+    }
+
+    /// The pointer; or a word next to its block, or far from it, so that the
+    /// run ends there and all the nodes around it are never worked out.
+    fn innermost(&mut self) -> (u32, u32) {
+        let value = self.read(0);
+        if self.random.percent(80) {
+            return (value, POINTER);
+        }
+        let value = self.step(value, &[u32::MAX, u32::MAX, 6, 1 << 31]);
+        let place = self.node(kind::DEREF, value, 0);
+        match self.random.percent(50) {
+            true => (self.node(kind::READ, place, 0), INT),
+            false => (self.node(kind::ADDRESS, place, 0), POINTER),
+        }
     }
 
     fn around_int(&mut self, value: u32, style: u32) -> (u32, u32) {

@@ -3,7 +3,7 @@
 use super::random::Random;
 use super::routine::{Routine, Wanted};
 use super::types::{INT, RECORD, VOID_POINTER};
-use crate::machine::kind;
+use crate::machine::{kind, Reason};
 
 pub struct Expressions<'r> {
     pub(super) routine: &'r mut Routine,
@@ -31,15 +31,36 @@ impl<'r> Expressions<'r> {
 
     /// A command, or none where there is no place at all to assign to.
     pub fn command(&mut self) -> Option<[u32; 2]> {
-        let walk = match self.random.percent(20) {
-            true => self.walk(),
-            false => None,
+        let special = match self.led_astray() {
+            Some(reason) if self.random.percent(45) => self.stray_command(reason),
+            _ if self.random.percent(20) => self.walk(),
+            _ => None,
         };
-        walk.or_else(|| self.assignment())
+        special.or_else(|| self.assignment())
+    }
+
+    /// Which way places shall be out of bounds, if they shall: places without
+    /// bounds come about without being sought.
+    fn led_astray(&self) -> Option<Reason> {
+        match self.wanted {
+            Wanted::Abort(Reason::NoBounds) | Wanted::Done | Wanted::NoRoom => None,
+            Wanted::Abort(reason) => Some(reason),
+        }
     }
 
     /// A place and a value of one type.
     fn assignment(&mut self) -> Option<[u32; 2]> {
+        let typ = self.some_place_type()?;
+        let place = self.place(typ)?;
+        let value = match self.wanted {
+            Wanted::NoRoom if self.random.percent(60) => self.fresh(typ),
+            _ => self.value(typ),
+        };
+        Some([place, value])
+    }
+
+    /// A type that some place has.
+    pub(super) fn some_place_type(&mut self) -> Option<u32> {
         let types = &self.routine.types;
         let mut goals: Vec<u32> = types.variables.clone();
         goals.extend((2..types.count()).filter_map(|t| types.target(t)));
@@ -47,16 +68,7 @@ impl<'r> Expressions<'r> {
         for record in (2..types.count()).filter_map(|t| types.record(t)) {
             goals.extend(types.records[record].iter().map(|&[typ, _]| typ));
         }
-        if goals.is_empty() {
-            return None;
-        }
-        let typ = self.random.pick(&goals);
-        let place = self.place(typ)?;
-        let value = match self.wanted {
-            Wanted::NoRoom if self.random.percent(60) => self.fresh(typ),
-            _ => self.value(typ),
-        };
-        Some([place, value])
+        (!goals.is_empty()).then(|| self.random.pick(&goals))
     }
 
     pub(super) fn node(&mut self, kind: u32, a: u32, b: u32) -> u32 {
@@ -71,6 +83,14 @@ impl<'r> Expressions<'r> {
     /// A place of type `typ`, where there can be one.
     pub(super) fn place(&mut self, typ: u32) -> Option<u32> {
         self.left = self.left.saturating_sub(1);
+        let stray = match self.led_astray() {
+            Some(reason) if self.random.percent(25) => self.stray(typ, reason),
+            _ => None,
+        };
+        stray.or_else(|| self.ordinary_place(typ))
+    }
+
+    pub(super) fn ordinary_place(&mut self, typ: u32) -> Option<u32> {
         let variables = self.routine.types.variables_of(typ);
         let pointer = self.routine.types.pointer_to(typ);
         let fields = self.routine.types.fields_of(typ);
@@ -108,7 +128,7 @@ impl<'r> Expressions<'r> {
         })
     }
 
-    fn value(&mut self, typ: u32) -> u32 {
+    pub(super) fn value(&mut self, typ: u32) -> u32 {
         if typ == INT {
             self.int()
         } else {
@@ -184,7 +204,10 @@ impl<'r> Expressions<'r> {
         if self.left == 0 {
             return self.simple_pointer(typ);
         }
-        let risk = if self.wanted == Wanted::Abort { 8 } else { 2 };
+        let risk = match self.wanted {
+            Wanted::Abort(Reason::NoBounds) => 8,
+            _ => 2,
+        };
         match self.random.weighted(&[34, 16, 16, 12, 10, 12, risk, 3]) {
             0 => self.variable_with_bounds(typ),
             1 => self.moved(typ),

@@ -9,15 +9,27 @@ use super::expression::Expressions;
 use super::random::Random;
 use super::registers;
 use super::types::Types;
-use crate::machine::{self, kind, Answer};
+use crate::machine::{self, kind, Answer, Reason};
 use crate::text::{Call, Case};
 
 /// How a routine shall end.
 #[derive(Clone, Copy, PartialEq, Eq)]
 pub enum Wanted {
     Done,
-    Abort,
+    Abort(Reason),
     NoRoom,
+}
+
+impl Wanted {
+    fn any(random: &mut Random) -> Wanted {
+        match random.weighted(&[33, 13, 16, 12, 26]) {
+            0 => Wanted::Done,
+            1 => Wanted::Abort(Reason::NoBounds),
+            2 => Wanted::Abort(Reason::BeforeBase),
+            3 => Wanted::Abort(Reason::PastEnd),
+            _ => Wanted::NoRoom,
+        }
+    }
 }
 
 pub struct Routine {
@@ -73,8 +85,7 @@ impl Routine {
         let mut routine = Routine::new(random, types, room);
         let commands = random.weighted(&[4, 6, 8, 10, 10, 10, 10, 9, 8, 7, 6, 5, 4, 3]);
         routine.grow(random, commands);
-        let wanted = random.pick(&[Wanted::Done, Wanted::Abort, Wanted::NoRoom]);
-        routine.end(random, wanted);
+        routine.end(random);
         routine
     }
 
@@ -97,8 +108,9 @@ impl Routine {
         }
     }
 
-    /// Adds commands that bring about the ending, and some never reached.
-    fn end(&mut self, random: &mut Random, wanted: Wanted) {
+    /// Adds commands that bring about some ending, and some never reached.
+    pub fn end(&mut self, random: &mut Random) {
+        let wanted = Wanted::any(random);
         if wanted == Wanted::Done {
             return;
         }
@@ -150,15 +162,15 @@ impl Routine {
             .iter_mut()
             .for_each(|list| list.resize(length, 0));
         let [values, bases, ends] = &mut self.memory;
-        let answer = machine::run(&table, &self.inputs, &self.registers, values, bases, ends);
+        let (answer, explanation) =
+            machine::explain(&table, &self.inputs, &self.registers, values, bases, ends);
         let (wanted, unused) = match answer {
-            Answer::Done { unused } => (Wanted::Done, unused),
-            Answer::Abort { unused, .. } => (Wanted::Abort, unused),
             Answer::NoRoom { unused, .. } => (Wanted::NoRoom, unused),
+            Answer::Done { unused } | Answer::Abort { unused, .. } => (Wanted::Done, unused),
             Answer::Refused(_) => (Wanted::Done, 1),
         };
         self.unused = unused;
-        wanted
+        explanation.map_or(wanted, |told| Wanted::Abort(told.reason))
     }
 
     /// The table of the routine.

@@ -46,11 +46,16 @@ impl Expressions<'_> {
     /// A variable's pointer that steps as a pointer of `typ` does.
     fn stepped(&mut self, variable: u32, typ: u32) -> u32 {
         let words = self.way(variable, typ);
+        let value = self.read_as(variable, typ);
+        self.step_by(value, typ, words)
+    }
+
+    /// A value moved by so many words, in steps of a pointer of `typ`.
+    pub(super) fn step_by(&mut self, value: u32, typ: u32, words: u32) -> u32 {
         let step = self.routine.types.step(typ);
         let number = steps(self.random, words, step);
-        let a = self.read_as(variable, typ);
         let b = self.number(number);
-        self.node(kind::SUM, a, b)
+        self.node(kind::SUM, value, b)
     }
 
     /// How many words it is from where a variable points to somewhere in its
@@ -58,7 +63,10 @@ impl Expressions<'_> {
     fn way(&mut self, variable: u32, typ: u32) -> u32 {
         let w = 1 + variable as usize;
         let [value, base, end] = [0, 1, 2].map(|list| self.routine.memory[list][w]);
-        let outside = if self.wanted == Wanted::Abort { 100 } else { 8 };
+        let outside = match self.wanted {
+            Wanted::Abort(_) => 100,
+            Wanted::Done | Wanted::NoRoom => 8,
+        };
         let words = end.saturating_sub(base).max(1);
         let last = words.saturating_sub(self.routine.types.step(typ));
         let offset = self.some_offset(typ);
@@ -83,9 +91,9 @@ impl Expressions<'_> {
         let Some(record) = self.routine.types.record(typ) else {
             return 1;
         };
-        let fields = &self.routine.types.records[record];
-        let before = self.random.index(fields.len());
-        fields[..before].iter().map(|&[_, words]| words).sum()
+        let fields = self.routine.types.records[record].len();
+        let b = self.random.index(fields);
+        self.routine.types.offset(record, b)
     }
 
     /// A value that is this number: a constant, or now and then a sum.

@@ -14,6 +14,18 @@ pub struct Types {
     pub variables: Vec<u32>,
 }
 
+/// A way from a pointer to a place: a follow, or a field.
+#[derive(Clone, Copy)]
+pub struct Way {
+    /// The pointer's type.
+    pub pointer: u32,
+    pub field: Option<u32>,
+    /// The place's type.
+    pub typ: u32,
+    pub offset: u32,
+    pub words: u32,
+}
+
 impl Types {
     /// Few of each, and many ways from one type to another.
     pub fn small(random: &mut Random) -> Types {
@@ -101,6 +113,12 @@ impl Types {
         self.records[record].iter().map(|&[_, words]| words).sum()
     }
 
+    /// The offset of a field of a record.
+    pub fn offset(&self, record: usize, b: usize) -> u32 {
+        let before = &self.records[record][..b];
+        before.iter().map(|&[_, words]| words).sum()
+    }
+
     /// How many words each 1 added to a value of this type moves it by.
     pub fn step(&self, typ: u32) -> u32 {
         self.record(typ).map_or(1, |record| self.size(record))
@@ -114,20 +132,41 @@ impl Types {
             .collect()
     }
 
-    /// Ways to a field of type `typ`: a pointer type and a field number.
-    pub fn fields_of(&self, typ: u32) -> Vec<[u32; 2]> {
-        let mut found = Vec::new();
-        for (record, fields) in self.records.iter().enumerate() {
-            let Some(pointer) = self.pointer_to(RECORD + record as u32) else {
-                continue;
-            };
-            for (b, &[field, _]) in fields.iter().enumerate() {
-                if field == typ {
-                    found.push([pointer, b as u32]);
-                }
+    /// All ways from pointers to places.
+    pub fn ways(&self) -> Vec<Way> {
+        let mut ways = Vec::new();
+        for (pointer, &target) in (2..).zip(&self.pointers) {
+            match target.checked_sub(RECORD) {
+                Some(record) => ways.extend(self.fields_by(pointer, record as usize)),
+                None => ways.push(Way {
+                    pointer,
+                    field: None,
+                    typ: target,
+                    offset: 0,
+                    words: 1,
+                }),
             }
         }
-        found
+        ways
+    }
+
+    /// The ways to a record's fields.
+    fn fields_by(&self, pointer: u32, record: usize) -> impl Iterator<Item = Way> + '_ {
+        let fields = self.records[record].iter().enumerate();
+        fields.map(move |(b, &[typ, words])| Way {
+            pointer,
+            field: Some(b as u32),
+            typ,
+            offset: self.offset(record, b),
+            words,
+        })
+    }
+
+    /// Ways to a field of type `typ`: a pointer type and a field number.
+    pub fn fields_of(&self, typ: u32) -> Vec<[u32; 2]> {
+        let ways = self.ways().into_iter().filter(|way| way.typ == typ);
+        let fields = ways.filter_map(|way| Some([way.pointer, way.field?]));
+        fields.collect()
     }
 }
 

@@ -10,6 +10,7 @@
 //! are dropped there only, and no read or constant has to.
 
 use super::declarations::Declarations;
+use super::explain::Watch;
 use super::layout::{Layout, MAX_NODES};
 use super::{kind, Answer, Checked, INT};
 
@@ -19,7 +20,7 @@ enum Stop {
     NoRoom,
 }
 
-pub struct Memory<'m> {
+pub struct Memory<'m, W> {
     nodes: &'m [[u32; 3]],
     notes: &'m [u8; MAX_NODES],
     layout: &'m Layout<'m>,
@@ -34,16 +35,18 @@ pub struct Memory<'m> {
     end: u32,
     /// Why the run stops, when it does.
     stop: Stop,
+    watch: W,
 }
 
-impl<'m> Memory<'m> {
+impl<'m, W: Watch> Memory<'m, W> {
     pub fn new(
         checked: &'m Checked,
         values: &'m mut [u32],
         bases: &'m mut [u32],
         ends: &'m mut [u32],
         unused: u32,
-    ) -> Memory<'m> {
+        watch: W,
+    ) -> Memory<'m, W> {
         Memory {
             nodes: checked.layout.nodes,
             notes: checked.notes,
@@ -56,6 +59,7 @@ impl<'m> Memory<'m> {
             base: 0,
             end: 0,
             stop: Stop::Abort,
+            watch,
         }
     }
 
@@ -110,11 +114,15 @@ impl<'m> Memory<'m> {
             kind::DEREF => {
                 let v = self.value(a)?;
                 // v + 1 <= end, exactly
-                (self.base <= v && v < self.end).then_some(v)
+                if self.base <= v && v < self.end {
+                    Some(v)
+                } else {
+                    self.not_passed(node, u64::from(v), 1)
+                }
             }
             _ => {
                 let v = self.value(a)?;
-                self.field(v, self.notes[a as usize], b)
+                self.field(node, v, self.notes[a as usize], b)
             }
         }
     }
@@ -122,7 +130,7 @@ impl<'m> Memory<'m> {
     /// The field with number `b` of the record at `v`: "it passes when b <= w
     /// and w + k <= e", in exact sums, hence in 64 bits.
     #[inline(always)]
-    fn field(&mut self, v: u32, pointer: u8, b: u32) -> Option<u32> {
+    fn field(&mut self, node: u32, v: u32, pointer: u8, b: u32) -> Option<u32> {
         let field = self.declarations.field(self.layout, pointer, b)?;
         let [_, words] = self.layout.fields[field];
         let w = u64::from(v) + u64::from(self.declarations.offset(field));
@@ -131,8 +139,16 @@ impl<'m> Memory<'m> {
             (self.base, self.end) = (w as u32, end as u32);
             Some(w as u32)
         } else {
-            None
+            self.not_passed(node, w, words)
         }
+    }
+
+    /// An abort. Bounds are still those of the pointer followed.
+    #[inline(always)]
+    fn not_passed(&mut self, node: u32, place: u64, words: u32) -> Option<u32> {
+        let bounds = [self.base, self.end];
+        self.watch.not_passed(node, place, words, bounds);
+        None
     }
 
     fn value(&mut self, node: u32) -> Option<u32> {
@@ -207,6 +223,7 @@ impl<'m> Memory<'m> {
         self.base = self.unused;
         self.unused += words;
         self.end = self.unused;
+        self.watch.block(self.base, words);
         Some(self.base)
     }
 }
