@@ -2,7 +2,7 @@
 //! else the machine does.
 
 use crate::rows::Row;
-use crate::side::{Act, Side, ACTS};
+use crate::side::{acts, Act, ActCosts, Side};
 use std::process::{Command, Stdio};
 
 /// Calls in the shorter of two runs, and how many the longer has more.
@@ -29,9 +29,12 @@ pub fn available() -> bool {
 }
 
 /// Instructions a call of one side, by act.
-pub fn measure(side: Side, row: &Row, plan: &Plan) -> Result<[f64; 2], String> {
-    let [check, call] = ACTS.map(|act| a_call(side, act, row, plan));
-    Ok([check?, call?])
+pub fn measure(side: Side, row: &Row, plan: &Plan) -> Result<ActCosts, String> {
+    let mut costs = ActCosts::default();
+    for act in acts() {
+        costs[act as usize] = a_call(side, act, row, plan)?;
+    }
+    Ok(costs)
 }
 
 /// What the calls more cost more: the start of the program drops out. They go

@@ -26,6 +26,28 @@ pub struct Answer {
     pub unused: u32,
 }
 
+/// What an explained call answers. What an ending does not tell is 0, so that
+/// reason 0 says that the run did not abort.
+#[repr(C)]
+#[derive(Clone, Copy, Debug, Default, PartialEq, Eq)]
+pub struct Explanation {
+    pub ending: u32,
+    pub number: u32,
+    pub place: usize,
+    pub command: u32,
+    pub unused: u32,
+    pub node: u32,
+    pub words: u32,
+    pub wanted: u64,
+    pub base: u32,
+    pub end: u32,
+    pub reason: u32,
+    pub first: u32,
+}
+
+/// Whether the archive can explain; build.rs has looked.
+pub const EXPLAINS: bool = cfg!(explains);
+
 const REFUSED: u32 = 0;
 const DONE: u32 = 1;
 const ABORT: u32 = 2;
@@ -48,6 +70,22 @@ extern "C" {
         ends: *mut u32,
         ends_length: usize,
     ) -> Answer;
+
+    #[cfg(explains)]
+    fn mavistable_explain(
+        table: *const u32,
+        table_length: usize,
+        inputs: *const u32,
+        input_count: usize,
+        registers: *const u32,
+        registers_length: usize,
+        values: *mut u32,
+        values_length: usize,
+        bases: *mut u32,
+        bases_length: usize,
+        ends: *mut u32,
+        ends_length: usize,
+    ) -> Explanation;
 }
 
 pub fn check(table: &[u32]) -> Verdict {
@@ -80,6 +118,47 @@ pub fn run(
             ends.len(),
         )
     }
+}
+
+#[cfg(explains)]
+pub fn explain(
+    table: &[u32],
+    inputs: &[u32],
+    registers: &[u32],
+    values: &mut [u32],
+    bases: &mut [u32],
+    ends: &mut [u32],
+) -> Explanation {
+    // SAFETY: as for the run.
+    unsafe {
+        mavistable_explain(
+            table.as_ptr(),
+            table.len(),
+            inputs.as_ptr(),
+            inputs.len(),
+            registers.as_ptr(),
+            registers.len(),
+            values.as_mut_ptr(),
+            values.len(),
+            bases.as_mut_ptr(),
+            bases.len(),
+            ends.as_mut_ptr(),
+            ends.len(),
+        )
+    }
+}
+
+/// Never called: without the symbol there is no such act.
+#[cfg(not(explains))]
+pub fn explain(
+    _: &[u32],
+    _: &[u32],
+    _: &[u32],
+    _: &mut [u32],
+    _: &mut [u32],
+    _: &mut [u32],
+) -> Explanation {
+    unreachable!("the archive has no mavistable_explain")
 }
 
 // The second's answers in the library's form, to be compared word by word.
@@ -128,6 +207,30 @@ impl From<machine::Answer> for Answer {
     }
 }
 
+impl From<(machine::Answer, Option<machine::Explanation>)> for Explanation {
+    fn from((answer, told): (machine::Answer, Option<machine::Explanation>)) -> Explanation {
+        let answer = Answer::from(answer);
+        let ended = Explanation {
+            ending: answer.ending,
+            number: answer.number,
+            place: answer.place,
+            command: answer.command,
+            unused: answer.unused,
+            ..Explanation::default()
+        };
+        told.map_or(ended, |told| Explanation {
+            node: told.node,
+            wanted: told.place,
+            words: told.words,
+            base: told.base,
+            end: told.end,
+            reason: told.reason as u32,
+            first: told.first,
+            ..ended
+        })
+    }
+}
+
 impl Verdict {
     pub fn passes(&self) -> bool {
         self.refused == 0
@@ -137,5 +240,9 @@ impl Verdict {
 impl Answer {
     pub fn is_done(&self) -> bool {
         self.ending == DONE
+    }
+
+    pub fn is_abort(&self) -> bool {
+        self.ending == ABORT
     }
 }

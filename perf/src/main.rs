@@ -19,7 +19,7 @@ mod workload;
 
 use report::Measured;
 use rows::Row;
-use side::{repeat, Costs, Lists, Side, ACTS, PARTS, SIDES};
+use side::{acts, parts, repeat, Costs, Lists, Side, SIDES};
 use std::process::{Command, ExitCode};
 use std::time::Duration;
 use time::Times;
@@ -72,7 +72,7 @@ fn report(file: &str, quick: bool, programs: &[&str]) -> Result<(), String> {
     let cases: usize = rows.iter().map(|row| row.cases.len()).sum();
     println!("{cases} tables: both sides give the same verdicts, answers and memories.\n");
     let count_plan = count_plan(quick);
-    let how = explanation(&time_plan(quick), count_plan.as_ref(), programs.len());
+    let how = how_measured(&time_plan(quick), count_plan.as_ref(), programs.len());
     println!("{how}\n{}", report::heading());
 
     let layouts: Result<Vec<_>, _> = programs
@@ -94,7 +94,7 @@ fn measured<'r>(
     row: &'r Row,
     layouts: Vec<Times>,
     plan: Option<&count::Plan>,
-) -> Result<[report::Line<'r>; 3], String> {
+) -> Result<Vec<report::Line<'r>>, String> {
     let counts = plan.map(|plan| both_sides(row, plan));
     let lines = Measured {
         row,
@@ -114,11 +114,15 @@ fn both_sides(row: &Row, plan: &count::Plan) -> Result<Costs, String> {
 }
 
 /// How the numbers are got.
-fn explanation(time: &time::Plan, count: Option<&count::Plan>, layouts: usize) -> String {
+fn how_measured(time: &time::Plan, count: Option<&count::Plan>, layouts: usize) -> String {
     let rounds = time.passes * time.rounds;
     let counted = match count {
         Some(plan) => format!("callgrind, what {} calls more cost more", plan.more),
         None => "not counted, as there is no valgrind".into(),
+    };
+    let explained = match library::EXPLAINS {
+        true => "whole call that tells why the run aborted; in the rows 'abort' it did",
+        false => "left out, as the library has no mavistable_explain",
     };
     format!(
         "ns: mean of {layouts} layouts of the code, in each the median of {rounds} rounds, the two sides by turns\n\
@@ -126,6 +130,7 @@ fn explanation(time: &time::Plan, count: Option<&count::Plan>, layouts: usize) -
          best: ratio of the best rounds of all layouts\n\
          instructions: {counted}\n\
          run: whole call less check, on both sides; the call clears the three lists\n\
+         explain: {explained}\n\
          processor: {}\n",
         processor()
     )
@@ -172,15 +177,17 @@ fn take_times(quick: bool) -> Result<(), String> {
     Ok(())
 }
 
-/// A line for each row and part: name, part, instructions, parted by tabs.
+/// A line for each row and part: group, name, part, instructions, parted by
+/// tabs.
 fn count_library() -> Result<(), String> {
     let plan = count_plan(false).ok_or("there is no valgrind to count with")?;
     let rows = rows::all(false);
     verify::rows(&rows)?;
     for row in &rows {
         let costs = count::measure(Side::Library, row, &plan)?;
-        for part in PARTS {
-            println!("{}\t{}\t{:.1}", row.name, part.name(), part.of_side(costs));
+        for part in parts() {
+            let cost = part.of_side(costs);
+            println!("{}\t{}\t{}\t{cost:.1}", row.group, row.name, part.name());
         }
     }
     Ok(())
@@ -188,7 +195,7 @@ fn count_library() -> Result<(), String> {
 
 fn spin(side: &str, act: &str, row: &str, calls: &str) -> Result<(), String> {
     let side = SIDES.into_iter().find(|known| known.name() == side);
-    let act = ACTS.into_iter().find(|known| known.name() == act);
+    let act = acts().find(|known| known.name() == act);
     let (Some(side), Some(act), Some(row), Ok(calls)) =
         (side, act, rows::named(row), calls.parse())
     else {

@@ -1,7 +1,7 @@
 //! The printed table, the summary and the saved results.
 
 use crate::rows::Row;
-use crate::side::{Costs, Part, PARTS};
+use crate::side::{parts, Costs, Part};
 use crate::time::{least, Times};
 
 /// What was measured of a row: times in each layout, and instructions.
@@ -34,8 +34,8 @@ pub struct Line<'r> {
 }
 
 impl<'r> Measured<'r> {
-    pub fn lines(&self) -> [Line<'r>; 3] {
-        PARTS.map(|part| self.line(part))
+    pub fn lines(&self) -> Vec<Line<'r>> {
+        parts().map(|part| self.line(part)).collect()
     }
 
     fn line(&self, part: Part) -> Line<'r> {
@@ -60,7 +60,9 @@ impl<'r> Measured<'r> {
 
     /// One number for all layouts, for each side and act.
     fn each_cost(&self, costs: fn(&Times) -> Costs, one: fn(Vec<f64>) -> f64) -> Costs {
-        [0, 1].map(|side| [0, 1].map(|act| one(self.over_layouts(|times| costs(times)[side][act]))))
+        [0, 1].map(|side| {
+            [0, 1, 2].map(|act| one(self.over_layouts(|times| costs(times)[side][act])))
+        })
     }
 }
 
@@ -78,11 +80,11 @@ pub fn heading() -> String {
     let sides = "|   library    second  ratio ";
     let a_node = "|  library   second ";
     let first = format!(
-        "{:<18}{:>6} {:<6}| {:<48}| {:<18}| {:<27}| {:<18}",
+        "{:<18}{:>6} {:<8}| {:<48}| {:<18}| {:<27}| {:<18}",
         "row", "nodes", "act", "ns a call", "ns a node", "instructions a call", "instr. a node"
     );
     let second = format!(
-        "{:<31}{sides} in layouts   best  {a_node}{sides}{a_node}",
+        "{:<33}{sides} in layouts   best  {a_node}{sides}{a_node}",
         ""
     );
     format!("{first}\n{second}\n{}", "-".repeat(second.len()))
@@ -98,7 +100,7 @@ pub fn text(line: &Line) -> String {
         None => "| not counted".into(),
     };
     format!(
-        "{:<18}{nodes:>6.0} {:<6}{} {range:<13}{:>5.2}  {}{instructions}",
+        "{:<18}{nodes:>6.0} {:<8}{} {range:<13}{:>5.2}  {}{instructions}",
         row.name,
         part.name(),
         sides_text(line.ns, line.ratio),
@@ -134,7 +136,8 @@ const COSTS: [(&str, Quantity<Pair>); 3] = [
     ("instructions", |line| line.instructions),
 ];
 
-/// Mean ratios over all shapes that have nodes, and what a node more costs.
+/// Mean ratios over all shapes that have nodes, what a node more costs, and what
+/// explaining costs beside the call.
 pub fn summary(lines: &[Line]) -> String {
     let ratios = RATIOS.map(|(name, quantity)| {
         summary_line(name, |part| {
@@ -150,18 +153,46 @@ pub fn summary(lines: &[Line]) -> String {
     });
     format!(
         "Ratio, geometric mean over the rows before 'registers' that have nodes:\n{}\
-         Cost of a node more, from the first to the last row of 'growth', library and second:\n{}",
+         Cost of a node more, from the first to the last row of 'growth', library and second:\n{}{}",
         ratios.concat(),
-        costs.concat()
+        costs.concat(),
+        explaining(lines).unwrap_or_default()
     )
 }
 
+/// The greatest ratio of explain to call, of either side. None where
+/// instructions are not counted or the library can't explain.
+fn explaining(lines: &[Line]) -> Option<String> {
+    let of = |part| {
+        let lines = lines.iter().filter(move |line| line.part == part);
+        lines.filter(|line| !line.row.aborts())
+    };
+    let mut greatest = [(0.0, ""); 2];
+    for (call, explain) in of(Part::Call).zip(of(Part::Explain)) {
+        let (calls, explains) = (call.instructions?, explain.instructions?);
+        for side in [0, 1] {
+            let ratio = explains[side] / calls[side];
+            if ratio > greatest[side].0 {
+                greatest[side] = (ratio, &call.row.name);
+            }
+        }
+    }
+    let [library, second] = greatest.map(|(ratio, row)| format!("{ratio:.3} ({row})"));
+    (greatest[0].0 > 0.0).then(|| {
+        format!(
+            "Explain / call of the same side, instructions, greatest of the rows that don't abort:\n  \
+             library {library}  second {second}\n"
+        )
+    })
+}
+
 fn summary_line(name: &str, cell: impl Fn(Part) -> Option<String>) -> String {
-    let cells = PARTS.map(|part| {
+    let cells = parts().map(|part| {
         let cell = cell(part).unwrap_or("not counted".into());
         format!("  {} {cell:<16}", part.name())
     });
-    format!("  {name:<16}{}\n", cells.concat().trim_end())
+    let cells: String = cells.collect();
+    format!("  {name:<16}{}\n", cells.trim_end())
 }
 
 fn mean_ratio(lines: &[Line], part: Part, quantity: Quantity<f64>) -> Option<f64> {

@@ -33,6 +33,9 @@ pub struct Plan {
     routines: Box<dyn Fn() -> Vec<Routine>>,
 }
 
+/// The group of rows whose runs abort.
+const ABORT: &str = "abort";
+
 const QUICK: [&str; 8] = [
     "small",
     "middle",
@@ -62,6 +65,7 @@ fn plans() -> Vec<Plan> {
     plans.extend(records());
     plans.extend(memory());
     plans.extend(growth());
+    plans.extend(aborts());
     plans
 }
 
@@ -146,6 +150,29 @@ fn growth() -> Vec<Plan> {
         routines: Box::new(move || vec![workload::family(groups)]),
     };
     [1, 2, 4, 8, 16, 32].map(plan).into()
+}
+
+/// Runs that abort at their last command. Two are rows of `growth` but for that.
+fn aborts() -> Vec<Plan> {
+    let plan = |name: &str, routine: fn() -> Routine| Plan {
+        group: ABORT,
+        name: name.into(),
+        memory: 256,
+        quick: name == "abort 512",
+        routines: Box::new(move || vec![routine()]),
+    };
+    vec![
+        plan("abort 64", || workload::family_that_aborts(4)),
+        plan("abort 512", || workload::family_that_aborts(32)),
+        plan("abort, 161 blocks", workload::many_blocks),
+    ]
+}
+
+impl Row {
+    /// Whether the runs of the row abort; all others are done.
+    pub fn aborts(&self) -> bool {
+        self.group == ABORT
+    }
 }
 
 impl Plan {

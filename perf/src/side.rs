@@ -1,7 +1,7 @@
 //! The two sides, and the loops that are measured. Both sides get the same
 //! tables and the same lists, one after the other.
 
-use crate::library;
+use crate::library::{self, EXPLAINS};
 use crate::rows::{Case, Row};
 use second::machine;
 use std::hint::black_box;
@@ -16,23 +16,41 @@ pub enum Side {
 pub enum Act {
     Check,
     Call,
+    Explain,
 }
 
 pub const SIDES: [Side; 2] = [Side::Library, Side::Second];
-pub const ACTS: [Act; 2] = [Act::Check, Act::Call];
+const ACTS: [Act; 3] = [Act::Check, Act::Call, Act::Explain];
+
+/// The acts that the library has.
+pub fn acts() -> impl Iterator<Item = Act> {
+    ACTS.into_iter()
+        .filter(|&act| EXPLAINS || act != Act::Explain)
+}
+
+/// One side's costs a call, by act; 0 for an act that the library has not.
+pub type ActCosts = [f64; ACTS.len()];
 
 /// Costs a call, by side, then by act.
-pub type Costs = [[f64; 2]; 2];
+pub type Costs = [ActCosts; 2];
 
-/// What the report tells apart in a call.
+/// What the report tells apart.
 #[derive(Clone, Copy, PartialEq, Eq)]
 pub enum Part {
     Check,
     Run,
     Call,
+    Explain,
 }
 
-pub const PARTS: [Part; 3] = [Part::Check, Part::Run, Part::Call];
+pub const PARTS: [Part; 4] = [Part::Check, Part::Run, Part::Call, Part::Explain];
+
+/// The parts that the library has.
+pub fn parts() -> impl Iterator<Item = Part> {
+    PARTS
+        .into_iter()
+        .filter(|&part| EXPLAINS || part != Part::Explain)
+}
 
 impl Part {
     pub fn name(self) -> &'static str {
@@ -40,6 +58,7 @@ impl Part {
             Part::Check => "check",
             Part::Run => "run",
             Part::Call => "call",
+            Part::Explain => "explain",
         }
     }
 
@@ -49,11 +68,12 @@ impl Part {
     }
 
     /// One side's cost. The run alone is the whole call less the check.
-    pub fn of_side(self, [check, call]: [f64; 2]) -> f64 {
+    pub fn of_side(self, [check, call, explain]: ActCosts) -> f64 {
         match self {
             Part::Check => check,
             Part::Run => call - check,
             Part::Call => call,
+            Part::Explain => explain,
         }
     }
 }
@@ -72,6 +92,7 @@ impl Act {
         match self {
             Act::Check => "check",
             Act::Call => "call",
+            Act::Explain => "explain",
         }
     }
 }
@@ -108,6 +129,13 @@ pub fn call(side: Side, case: &Case, lists: &mut Lists) -> library::Answer {
     }
 }
 
+pub fn explain(side: Side, case: &Case, lists: &mut Lists) -> library::Explanation {
+    match side {
+        Side::Library => library_explain(case, lists),
+        Side::Second => second_explain(case, lists).into(),
+    }
+}
+
 /// The act `calls` times, over the row's cases in turn.
 pub fn repeat(side: Side, act: Act, row: &Row, lists: &mut Lists, calls: usize) {
     match (side, act) {
@@ -115,10 +143,14 @@ pub fn repeat(side: Side, act: Act, row: &Row, lists: &mut Lists, calls: usize) 
         (Side::Second, Act::Check) => each(row, calls, |case| second_check(&case.table)),
         (Side::Library, Act::Call) => each(row, calls, |case| library_call(case, lists)),
         (Side::Second, Act::Call) => each(row, calls, |case| second_call(case, lists)),
+        (Side::Library, Act::Explain) => each(row, calls, |case| library_explain(case, lists)),
+        (Side::Second, Act::Explain) => each(row, calls, |case| second_explain(case, lists)),
     }
 }
 
-#[inline(always)]
+/// A function for each side and act, so that what one loop costs does not depend
+/// on which others there are.
+#[inline(never)]
 fn each<T>(row: &Row, calls: usize, mut act: impl FnMut(&Case) -> T) {
     for case in row.cases.iter().cycle().take(calls) {
         black_box(act(black_box(case)));
@@ -137,8 +169,20 @@ fn library_call(case: &Case, lists: &mut Lists) -> library::Answer {
     )
 }
 
+#[inline(always)]
+fn library_explain(case: &Case, lists: &mut Lists) -> library::Explanation {
+    library::explain(
+        &case.table,
+        &case.inputs,
+        &case.registers,
+        &mut lists.values,
+        &mut lists.bases,
+        &mut lists.ends,
+    )
+}
+
 // The second is a Rust crate and could melt into the loop, which a library in
-// an archive can't: these two keep it a call.
+// an archive can't: these three keep it a call.
 
 #[inline(never)]
 fn second_check(table: &[u32]) -> machine::Verdict {
@@ -148,6 +192,21 @@ fn second_check(table: &[u32]) -> machine::Verdict {
 #[inline(never)]
 fn second_call(case: &Case, lists: &mut Lists) -> machine::Answer {
     machine::run(
+        &case.table,
+        &case.inputs,
+        &case.registers,
+        &mut lists.values,
+        &mut lists.bases,
+        &mut lists.ends,
+    )
+}
+
+#[inline(never)]
+fn second_explain(
+    case: &Case,
+    lists: &mut Lists,
+) -> (machine::Answer, Option<machine::Explanation>) {
+    machine::explain(
         &case.table,
         &case.inputs,
         &case.registers,

@@ -4,7 +4,7 @@
 //! through several times, so that no row has a bad moment to itself.
 
 use crate::rows::Row;
-use crate::side::{repeat, Act, Costs, Lists, Part, Side, ACTS, PARTS, SIDES};
+use crate::side::{acts, repeat, Act, Costs, Lists, Part, Side, PARTS, SIDES};
 use std::time::{Duration, Instant};
 
 pub struct Plan {
@@ -24,8 +24,8 @@ pub struct Times {
     /// Nanoseconds a call.
     pub median: Costs,
     pub best: Costs,
-    /// Library / second, for each part of a call.
-    pub ratios: [f64; 3],
+    /// Library / second, for each part.
+    pub ratios: [f64; PARTS.len()],
 }
 
 pub fn measure(rows: &[Row], plan: &Plan) -> Vec<Times> {
@@ -43,7 +43,7 @@ struct Sample<'r> {
     row: &'r Row,
     lists: Lists,
     /// Calls a slice, by act.
-    calls: [usize; 2],
+    calls: [usize; 3],
     /// Nanoseconds a call in each round.
     rounds: Vec<Costs>,
 }
@@ -53,10 +53,12 @@ impl<'r> Sample<'r> {
         let mut sample = Sample {
             row,
             lists: Lists::new(row.memory, 0),
-            calls: [0; 2],
+            calls: [0; 3],
             rounds: Vec::new(),
         };
-        sample.calls = ACTS.map(|act| sample.calls_a_slice(act, plan.slice));
+        for act in acts() {
+            sample.calls[act as usize] = sample.calls_a_slice(act, plan.slice);
+        }
         sample
     }
 
@@ -84,7 +86,7 @@ impl<'r> Sample<'r> {
 
     fn round(&mut self, sides: [Side; 4]) -> Costs {
         let mut costs = Costs::default();
-        for act in ACTS {
+        for act in acts() {
             let calls = self.calls[act as usize];
             for side in sides {
                 let time = self.elapsed(side, act, calls).as_nanos() as f64;
@@ -97,7 +99,7 @@ impl<'r> Sample<'r> {
     fn times(self) -> Times {
         let over_rounds = |of: fn(Vec<f64>) -> f64| {
             [0, 1].map(|side| {
-                [0, 1].map(|act| of(self.rounds.iter().map(|costs| costs[side][act]).collect()))
+                [0, 1, 2].map(|act| of(self.rounds.iter().map(|costs| costs[side][act]).collect()))
             })
         };
         Times {
@@ -149,13 +151,15 @@ impl Times {
 
     pub fn from_line(line: &str) -> Option<Times> {
         let numbers: Result<Vec<f64>, _> = line.split(' ').map(str::parse).collect();
-        let [a, b, c, d, e, f, g, h, check, run, call] = numbers.ok()?[..] else {
+        let numbers = numbers.ok()?;
+        let (costs, ratios) = numbers.split_last_chunk()?;
+        let (&[a, b, c, d], []) = costs.as_chunks() else {
             return None;
         };
         Some(Times {
-            median: [[a, b], [c, d]],
-            best: [[e, f], [g, h]],
-            ratios: [check, run, call],
+            median: [a, b],
+            best: [c, d],
+            ratios: *ratios,
         })
     }
 }

@@ -1,7 +1,9 @@
 //! Both sides must agree on every case before anything is measured.
 
+use crate::library::EXPLAINS;
 use crate::rows::{Case, Row};
-use crate::side::{call, check, Lists, Side};
+use crate::side::{call, check, explain, Lists, Side, SIDES};
+use std::fmt::Debug;
 
 /// Lists are lent full of such words, so that a call that clears too little
 /// is found out.
@@ -10,33 +12,53 @@ const SOIL: u32 = 0xdead_beef;
 pub fn rows(rows: &[Row]) -> Result<(), String> {
     for row in rows {
         for (i, case) in row.cases.iter().enumerate() {
-            agrees(case, row.memory)
-                .map_err(|fault| format!("row '{}', table {i}: {fault}", row.name))?;
+            agrees(case, row).map_err(|fault| format!("row '{}', table {i}: {fault}", row.name))?;
         }
     }
     Ok(())
 }
 
-fn agrees(case: &Case, memory: usize) -> Result<(), String> {
-    let (library, second) = (check(Side::Library, case), check(Side::Second, case));
-    if library != second {
-        return Err(format!("verdicts differ: {library:?}, {second:?}"));
+fn agrees(case: &Case, row: &Row) -> Result<(), String> {
+    let verdict = same("verdicts", SIDES.map(|side| check(side, case)))?;
+    if !verdict.passes() {
+        return Err(format!("the table is refused: {verdict:?}"));
     }
-    if !library.passes() {
-        return Err(format!("the table is refused: {library:?}"));
+    let (answer, lists) = ended(row, |side, lists| call(side, case, lists))?;
+    let expected = match row.aborts() {
+        true => answer.is_abort(),
+        false => answer.is_done(),
+    };
+    if !expected {
+        return Err(format!("another ending is expected: {answer:?}"));
     }
-    let mut of_library = Lists::new(memory, SOIL);
-    let mut of_second = Lists::new(memory, SOIL);
-    let library = call(Side::Library, case, &mut of_library);
-    let second = call(Side::Second, case, &mut of_second);
-    if library != second {
-        return Err(format!("answers differ: {library:?}, {second:?}"));
+    if EXPLAINS {
+        let (_, after) = ended(row, |side, lists| explain(side, case, lists))?;
+        if after != lists {
+            return Err("the explaining call leaves another memory".into());
+        }
     }
-    if !library.is_done() {
-        return Err(format!("the run is not done: {library:?}"));
-    }
+    Ok(())
+}
+
+/// What both sides answer and leave in lists full of rubbish.
+fn ended<T: Debug + PartialEq>(
+    row: &Row,
+    act: impl Fn(Side, &mut Lists) -> T,
+) -> Result<(T, Lists), String> {
+    let mut lists = SIDES.map(|_| Lists::new(row.memory, SOIL));
+    let [of_library, of_second] = &mut lists;
+    let answers = [act(Side::Library, of_library), act(Side::Second, of_second)];
+    let answer = same("answers", answers)?;
+    let [of_library, of_second] = lists;
     if of_library != of_second {
         return Err("memories differ".into());
     }
-    Ok(())
+    Ok((answer, of_library))
+}
+
+fn same<T: Debug + PartialEq>(what: &str, [library, second]: [T; 2]) -> Result<T, String> {
+    match library == second {
+        true => Ok(library),
+        false => Err(format!("{what} differ: {library:?}, {second:?}")),
+    }
 }

@@ -1,15 +1,25 @@
-//! Routines to measure. Each passes the check and each run is done, so that
-//! each node is worked out exactly once.
+//! Routines to measure. Each passes the check, and each run is done, so that
+//! each node is worked out exactly once, or aborts at its last command, so that
+//! nearly all are.
 
 use crate::routine::{entry, Routine, INT, RECORD, VOID_POINTER};
 
 /// 16 nodes in 3 commands that have each of the ten kinds:
 /// `p = (record*)malloc(sizeof(record)); q = &p->field 1; *(q + 1) = x`.
 fn group(r: &mut Routine, p: [u32; 2], q: u32, x: u32, record: u32) {
-    let [p, typ] = p;
+    new_field(r, p, q, record);
+    put(r, q, 1, x);
+}
+
+/// `p = (record*)malloc(sizeof(record)); q = &p->field 1`, in 9 nodes.
+fn new_field(r: &mut Routine, [p, typ]: [u32; 2], q: u32, record: u32) {
     r.new_record(p, typ, record);
     take_field(r, q, p, 1);
-    let place = r.word_of(q, 1);
+}
+
+/// `*(q + n) = x`, in 7 nodes.
+fn put(r: &mut Routine, q: u32, n: u32, x: u32) {
+    let place = r.word_of(q, n);
     let value = r.get(x);
     r.assign(place, value);
 }
@@ -45,6 +55,15 @@ pub fn family(groups: usize) -> Routine {
     for _ in 0..groups {
         group(&mut r, [0, entry(0)], 1, 2, 0);
     }
+    r
+}
+
+/// The same with its last store a word further on, past the end of the field of
+/// two words: the run aborts there, and only the 2 nodes of x are left.
+pub fn family_that_aborts(groups: usize) -> Routine {
+    let mut r = family(groups - 1);
+    new_field(&mut r, [0, entry(0)], 1, 0);
+    put(&mut r, 1, 2, 2);
     r
 }
 
@@ -268,11 +287,33 @@ pub fn allocations() -> Routine {
         ..Routine::default()
     };
     for _ in 0..170 {
-        let place = r.variable(0);
-        let words = r.constant(1);
-        let value = r.obtain(words);
-        r.assign(place, value);
+        one_word(&mut r, 0);
     }
+    r
+}
+
+/// `variable = malloc(1)`, in 3 nodes.
+fn one_word(r: &mut Routine, variable: u32) {
+    let place = r.variable(variable);
+    let words = r.constant(1);
+    let value = r.obtain(words);
+    r.assign(place, value);
+}
+
+/// `p = (int*)malloc(1)`, `void = malloc(1)` 160 times, then `*(p + 1) = x`: the
+/// run aborts past the end of the first of 161 blocks.
+pub fn many_blocks() -> Routine {
+    let [p, void, x] = [0, 1, 2];
+    let mut r = Routine {
+        pointers: vec![INT],
+        variables: vec![[entry(0), 0], [VOID_POINTER, 0], [INT, 9]],
+        ..Routine::default()
+    };
+    r.block(p, entry(0), 1);
+    for _ in 0..160 {
+        one_word(&mut r, void);
+    }
+    put(&mut r, p, 1, x);
     r
 }
 
