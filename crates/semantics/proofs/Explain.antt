@@ -72,6 +72,12 @@ lowest-reason x not-passed = go (without-bounds x) refl (ltb (x .at) (x .base)) 
         let from = ltb-false (x .at) (x .base) r in
         record { applies = past-end (past _ refl from); lowest = λ n. third q from }
 
+-- No reason applies to a check that is passed, of at least one word.
+pub passed-has-no-reason : (x : Bounds-check) → 1 ≤ x .words → Passed x → (n : ℕ) → Applies x n → ⊥
+passed-has-no-reason x some h n (no-bounds b e) = omega (arith, h .upto)
+passed-has-no-reason x some h n (before-base less) = omega (arith, h .from)
+passed-has-no-reason x some h n (past-end less) = omega (arith, h .upto)
+
 -- ---- the first word
 
 module _ {vars u : ℕ} {log : List Event} (st : Stacked vars log u) (x : Bounds-check) where
@@ -104,15 +110,6 @@ abort-told vars c {x} {log} {earlier} q = ap (newest-cause vars log) q ∙ newes
 pub failure-told : (vars : ℕ) (t : Words) (c d : ℕ) (s : State) (x : Bounds-check) (s′ : State) → command t c s ≡ fails x s′
     → explanation vars (abort d) (s′ .log) ≡ because (cause-of vars (s′ .log) x)
 failure-told vars t c d s x s′ q = abort-told vars d (stopped-by (command-tested t c s) q .newest)
-
-pub abort-explained : (t inputs registers values bases ends : Words)
-    → call-fault t inputs registers (length values) (length bases) (length ends) ≡ passes
-    → (c : ℕ) → run t inputs registers (length values) .ending ≡ abort c
-    → (s : State) (x : Bounds-check) → command t c s ≡ fails x (run t inputs registers (length values) .state)
-    → explain t inputs registers values bases ends .explanation ≡ because (cause-of (count t variables) (run t inputs registers (length values) .state .log) x)
-unfolding explain
-abort-explained t inputs registers values bases ends e c q s x failed =
-    rw (e, q) (failure-told (count t variables) t c c s x (run t inputs registers (length values) .state) failed)
 
 -- ---- the theorem
 

@@ -1,5 +1,6 @@
 -- The log can be believed. Spatial safety speaks of the log, so these statements say what a log has: every word written, every word that sways
--- the run, and blocks that lie apart; how each step comes by its place and its event; and by which check it fails. Those about a call are of its run when it is begun.
+-- the run, and blocks that lie apart; how each step comes by its place and its event; and by which check it fails. Those about a call are of
+-- its run when it is begun.
 use Prim.Native.Nat.{ℕ, _+_, _≤_, _<_}
 use mathlib.Core.Bool.{Bool, true, false}
 use mathlib.Core.Path.{_≡_}
