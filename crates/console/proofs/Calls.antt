@@ -12,8 +12,8 @@ use Rattle.semantics.specs.Words.{Words}
 use Rattle.semantics.specs.Check.{Verdict, passes, refused, call-fault}
 use Rattle.semantics.specs.Run.{Answer, refusal, Result, call-by, call}
 use Rattle.semantics.proofs.Safety.{spatial-safety, unused-fits}
-use Rattle.stream.specs.Items.{Item, item-room, room-of, Puts-items}
-use Rattle.stream.proofs.Items.{puts-none, puts-word, puts-then}
+use Rattle.stream.specs.Items.{item-room, room-of, Puts-items}
+use Rattle.stream.proofs.Items.{room-both, puts-none, puts-word, puts-then}
 use Rattle.text.specs.Decimal.{Puts}
 use Rattle.text.specs.Scan.{Finishes}
 use Rattle.text.specs.declared.Scanner.{Scanner}
@@ -69,11 +69,6 @@ pub puts-answer : (a : Answer) (vs bs es : Words) {out : List ℕ} {at : ℕ}
 puts-answer a vs bs es first second e third = puts-then first (puts-then (puts-word second) (rw e at third))
 
 -- ---- the room that the lines take
-
-room-both : (ps qs : List Item) → room-of (ps ++ qs) ≡ room-of ps + room-of qs
-unfolding room-of
-room-both [] qs = omega arith
-room-both (p ∷ ps) qs = let rest = room-both ps qs in omega arith
 
 lines-room : (n : ℕ) (vs bs es : List ℕ) → room-of (lines-to n vs bs es) ≡ 84 * n
 unfolding room-of lines-to

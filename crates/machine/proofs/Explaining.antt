@@ -1,24 +1,24 @@
 -- What is told of an abort: from a first call, if its bounds lie in a variable or a register, else from a second.
 use Prim.Native.Nat.{ℕ, _+_, _≤_, _<_}
-use mathlib.Core.Bool.{Bool, true, false}
+use mathlib.Core.Bool.{true, false}
 use mathlib.Core.Path.{_≡_, refl, sym, ap, _∙_}
 use mathlib.Core.Logic.{inr}
-use mathlib.Core.List.{List, [], _∷_}
+use mathlib.Core.List.{List}
 use native.Mathlib.Omega.{arith}
 use borrow.Author.Tests.{le-leb, lt-leb}
-use lib.Dec.{ltb}
 use lib.ListN.{length}
-use Rattle.semantics.specs.Words.{Words, if_then_else_}
+use Rattle.semantics.specs.Words.{Words}
 use Rattle.semantics.specs.Table.{variables, count}
 use Rattle.semantics.specs.Registers.{register-count, register-start}
 use Rattle.semantics.specs.Check.{Verdict, passes, refused, call-fault}
-use Rattle.semantics.specs.Rules.{Bounds-check, Event, loaded, stored, allocated, tested}
-use Rattle.semantics.specs.Run.{cleared, begin, Ending, done, abort, out-of-memory, stuck, ending, run, result-of, call}
+use Rattle.semantics.specs.Rules.{Bounds-check, Event}
+use Rattle.semantics.specs.Run.{cleared, begin, abort, ending, run, result-of, call}
 use Rattle.semantics.specs.Explain as semantics
-use Rattle.semantics.specs.Explain.{without-bounds, reason-of, block-start, first-word, Explanation, not-aborted, because, cause-of, newest-cause, explanation, explain}
+use Rattle.semantics.specs.Explain.{without-bounds, reason-of, block-start, first-word, Explanation, not-aborted, because, cause-of, explanation, explain}
 use Rattle.semantics.proofs.Registers.{Whole, registers-unused}
 use Rattle.semantics.proofs.Safety.{Begun, begun, begun-runs}
 use Rattle.semantics.proofs.Starts.{block-start-none}
+use Rattle.semantics.proofs.Causes.{because-is, aborted-not, cause-is, reason-absent, reason-present}
 use Rattle.semantics.proofs.Explain.{abort-base-inside, register-block-start}
 use Rattle.registers.specs.Blocks.{in-register, past-all}
 use Rattle.machine.specs.Explain.{cause-told, explanation-told, explained-of, starting-at, started, Declared, of-variable, of-register, Watchable, Called}
@@ -34,49 +34,10 @@ both-parts : (t inputs registers vs bs es : Words)
 unfolding explain
 both-parts t inputs registers vs bs es = refl
 
-because-is : {x y : semantics.Cause} → because x ≡ because y → x ≡ y
-because-is e = cc
-
-aborted-not : {x : semantics.Cause} → because x ≡ not-aborted → ⊥
-aborted-not e = let z : _≡_ {A = ℕ} 0 1 = cc in omega arith
-
 -- Without an abort no first word is told.
 unstarted : (n : ℕ) (x : Explanation) → started n x ≡ not-aborted → started n x ≡ x
 unstarted n not-aborted e = refl
 unstarted n (because x) e = absurd (aborted-not e)
-
--- Reason and first word of a cause are those of its check.
-newest-is : (vars : ℕ) (log part : List Event) (y : semantics.Cause) → newest-cause vars log part ≡ because y → y ≡ cause-of vars log (y .check)
-unfolding newest-cause
-newest-is vars log [] y e = absurd (aborted-not (sym e))
-newest-is vars log (tested x ∷ part) y e = rw (← because-is e) refl
-newest-is vars log (loaded at a ∷ part) y e = newest-is vars log part y e
-newest-is vars log (stored at a ∷ part) y e = newest-is vars log part y e
-newest-is vars log (allocated s n ∷ part) y e = newest-is vars log part y e
-
-cause-is : (vars : ℕ) (d : Ending) (log : List Event) (y : semantics.Cause) → explanation vars d log ≡ because y → y ≡ cause-of vars log (y .check)
-cause-is vars done log y e = absurd (aborted-not (sym e))
-cause-is vars (abort c) log y e = newest-is vars log log y e
-cause-is vars (out-of-memory c) log y e = absurd (aborted-not (sym e))
-cause-is vars (stuck c) log y e = absurd (aborted-not (sym e))
-
--- Reason 1 is that of bounds that are absent.
-reason-absent : (x : Bounds-check) → reason-of x ≡ 1 → without-bounds x ≡ true
-unfolding reason-of
-reason-absent x e = go (without-bounds x) (ltb (x .at) (x .base)) e
-  where
-    go : (b c : Bool) → _≡_ {A = ℕ} (if b then 1 else if c then 2 else 3) 1 → b ≡ true
-    go true c q = refl
-    go false true q = absurd (omega arith)
-    go false false q = absurd (omega arith)
-
-reason-present : (x : Bounds-check) → (reason-of x ≡ 1 → ⊥) → without-bounds x ≡ false
-unfolding reason-of
-reason-present x e = go (without-bounds x) (ltb (x .at) (x .base)) e
-  where
-    go : (b c : Bool) → (_≡_ {A = ℕ} (if b then 1 else if c then 2 else 3) 1 → ⊥) → b ≡ false
-    go true c q = absurd (q refl)
-    go false c q = refl
 
 module _ {t inputs registers vs bs es : Words} where
   -- A call that did not abort is explained.

@@ -18,4 +18,5 @@ pub mod Ints
 pub mod Safety
 pub mod Depth
 pub mod Starts
+pub mod Causes
 pub mod Explain

@@ -33,6 +33,12 @@ unfolding bytes-of room-of
 items-short [] = omega arith
 items-short (p ∷ ps) = let short = item-short p in let rest = items-short ps in rw length-append (omega arith)
 
+-- Two rows of items take the room of both.
+pub room-both : (ps qs : List Item) → room-of (ps ++ qs) ≡ room-of ps + room-of qs
+unfolding room-of
+room-both [] qs = omega arith
+room-both (p ∷ ps) qs = let rest = room-both ps qs in omega arith
+
 -- ---- bytes put after bytes
 
 module _ (out xs : List ℕ) (at : ℕ) (room : at + length xs ≤ length out) where

@@ -2,11 +2,11 @@
 use Prim.Native.Nat.{ℕ, _+_, _≤_}
 use Prim.Native.String.{String}
 use mathlib.Core.Bool.{Bool, true, false}
-use mathlib.Core.List.{List, [], _∷_, _++_}
-use mathlib.Core.Path.{_≡_}
+use mathlib.Core.List.{[], _∷_, _++_}
 use native.Mathlib.Omega.{arith}
 use lib.Dec.{eqb}
-use Rattle.stream.specs.Items.{Item, item-room, room-of}
+use Rattle.stream.specs.Items.{item-room, room-of}
+use Rattle.stream.proofs.Items.{room-both}
 use Rattle.lines.specs.Lines.{line-end, ending-line}
 use Rattle.lines.proofs.Lines.{ending-room}
 use Rattle.semantics.specs.Words.{Words, if_then_else_}
@@ -21,11 +21,6 @@ use Rattle.why.specs.Owners.{owner-of}
 use Rattle.why.specs.Told.{text, either, owner-text, node-text, wanted-text, bounds-text, reason-text, cause-line, ended-line, not-aborted-lines, told-lines}
 use Rattle.why.specs.declared.Owner.{Owner}
 use Rattle.why.specs.declared.Owner.the-variants.{Variable, Register, Block}
-
-room-both : (ps qs : List Item) → room-of (ps ++ qs) ≡ room-of ps + room-of qs
-unfolding room-of
-room-both [] qs = omega arith
-room-both (p ∷ ps) qs = let rest = room-both ps qs in omega arith
 
 owner-room : (o : Owner) → room-of (owner-text o) ≤ 64
 unfolding room-of item-room owner-text ascii
