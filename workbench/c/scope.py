@@ -1,0 +1,56 @@
+"""The names of a C text: its structs and its variables."""
+
+from dataclasses import dataclass
+
+from ..errors import Faulty
+from ..source import Span
+from .types import Record
+
+RESERVED = ("malloc", "NULL")  # names that the fragment has by itself
+
+
+@dataclass(frozen=True)
+class Variable:
+    name: str
+    type: object
+    span: Span
+    number: int
+
+
+class Scope:
+    """Structs in the order in which they are defined, and variables by name in the order of the text."""
+
+    def __init__(self):
+        self.tags, self.records, self.variables = {}, [], {}
+
+    def record(self, tag, span):
+        """The struct of a tag, which may be defined further on."""
+        if tag not in self.tags:
+            self.tags[tag] = Record(tag, span)
+        return self.tags[tag]
+
+    def define(self, record, span):
+        if record.number is not None:
+            raise Faulty(span, f"struct {record.tag} is defined twice")
+        record.number = len(self.records)
+        self.records.append(record)
+
+    def refuse_undefined(self):
+        """A struct that is only mentioned has no size and no fields."""
+        for record in self.tags.values():
+            if record.members is None:
+                raise Faulty(record.span, f"struct {record.tag} is never defined", "define it, or use void *")
+
+    def declare(self, name, type, span):
+        if name in RESERVED:
+            raise Faulty(span, f"a variable can't be called {name}")
+        if name in self.variables:
+            earlier = self.variables[name].span.line
+            raise Faulty(span, f"{name} is declared twice, first in line {earlier}", "a name stands for one variable in the whole text")
+        self.variables[name] = Variable(name, type, span, len(self.variables))
+        return self.variables[name]
+
+    def variable(self, name, span):
+        if name not in self.variables:
+            raise Faulty(span, f"{name} is not declared")
+        return self.variables[name]
