@@ -5,6 +5,7 @@ from dataclasses import dataclass
 from .names import Names
 from .source import Source
 from .table import Table
+from .unparse import Unparser
 
 
 @dataclass
@@ -16,3 +17,32 @@ class Routine:
     names: Names
     node_spans: list
     command_spans: list
+    scope: object = None  # the declarations, where there is C
+
+    @property
+    def is_c(self):
+        return self.scope is not None
+
+    @property
+    def unparser(self):
+        return Unparser(self.table, self.names)
+
+    def node_name(self, number):
+        """A node in a sentence: as it is written in C, or its number and how C would write it."""
+        if self.is_c:
+            return f"`{self.node_spans[number].text}`"
+        return f"node {number}, `{self.unparser.text(number)}`,"
+
+    def obtained_by(self, command):
+        """Which command obtained a block, in a sentence."""
+        return f"obtained in line {self.command_spans[command].line}" if self.is_c else f"obtained by command {command}"
+
+
+def routine_of_text(text):
+    """The routine of a bench text whose table passes the check."""
+    table = Table.of(text.words)
+    commands_at = len(text.words) - 2 * len(table.commands)
+    nodes_at = commands_at - 1 - 3 * len(table.nodes)
+    nodes = [text.spans[at].to(text.spans[at + 2]) for at in range(nodes_at, commands_at - 1, 3)]
+    commands = [text.spans[at].to(text.spans[at + 1]) for at in range(commands_at, len(text.words), 2)]
+    return Routine(text.source, table, Names.numbered(table), nodes, commands)

@@ -45,14 +45,14 @@ def read_numbers(source):
     return numbers, spans
 
 
-def read_text(source):
-    """A bench text in its parts. One that the bench program answers by `input` is faulty."""
+def read_text(source, limited=True):
+    """A bench text in its parts. One that the bench program answers by `input` is faulty; unlimited, its memory may be of any length."""
     numbers, spans = read_numbers(source)
     end = Span(source, len(source.text.rstrip(" \n")), len(source.text))
     for at, name in enumerate(("the memory's length", "the count of inputs")):
         if len(numbers) <= at:
             raise Faulty(end, f"{name} is missing")
-    if numbers[0] > MEMORY:
+    if limited and numbers[0] > MEMORY:
         raise Faulty(spans[0], f"the memory's length is at most {MEMORY} here", "--memory takes up to 65536")
     if numbers[1] > INPUTS:
         raise Faulty(spans[1], f"the count of inputs is at most {INPUTS}")
@@ -62,3 +62,16 @@ def read_text(source):
     if len(numbers) - first > TABLE:
         raise Faulty(spans[first + TABLE], f"the table has {len(numbers) - first} words, and {TABLE} is the most")
     return Text(source, numbers[0], numbers[2:first], numbers[first:], spans[first:])
+
+
+def bench_text(table, memory, inputs):
+    """A table as lines that the bench program takes: memory, inputs, sections 1 to 4, the nodes of each command, the commands."""
+    lines = [[memory], [len(inputs), *inputs]]
+    for entries in table.sections()[:4]:
+        lines.append([len(entries), *(word for entry in entries for word in entry)])
+    lines.append([len(table.nodes)])
+    for place, value in table.commands:
+        nodes = table.worked_out(place) + table.worked_out(value)
+        lines.append([word for node in nodes for word in table.nodes[node]])
+    lines.append([len(table.commands), *(node for command in table.commands for node in command)])
+    return [" ".join(map(str, line)) for line in lines]

@@ -37,7 +37,7 @@ class Numbering:
         fields = [FieldName(member.name, isinstance(member.type, types.Array)) for member in members]
         names = Names(list(scope.variables), [record.tag for record in scope.records], fields)
         spans = [command.span for command in self.text.commands]
-        return Routine(self.text.source, self.table, names, self.node_spans, spans)
+        return Routine(self.text.source, self.table, names, self.node_spans, spans, scope)
 
     def type(self, type):
         """The number of a type; a pointer type gets an entry when it is first met."""

@@ -1,0 +1,106 @@
+"""The commands of `mavis`: from options to lines and an exit status."""
+
+from .arguments import inputs_of, memory_length, read_file, registers_of
+from .endings import Ending
+from .errors import REFUSED, Faulty, Usage
+from .listing import listing
+from .machine import Call, Machine
+from .memory import memory_lines
+from .refusal import shown_refusal
+from .regions import Regions
+from .routine import routine_of_text
+from .source import Source
+from .text import MEMORY, bench_text, read_text
+from .translate import translate
+
+STATUS = {"done": 0, "abort": 1, "noroom": 2, "refused": REFUSED}
+
+
+def run(options):
+    """Runs a routine and tells how it ended and what it left."""
+    machine = Machine()
+    try:
+        routine, text, call = prepared(options, machine)
+    except Faulty:
+        if not options.raw or is_c(options.file):
+            raise
+        print("input")
+        return REFUSED
+    (answer,) = machine.explain([call])
+    if options.raw:
+        print("\n".join(raw_lines(answer)))
+    elif answer.ending == "refused":
+        print(shown_refusal(routine, text, call, answer))
+    else:
+        regions = Regions(routine, machine, call, answer)
+        print("\n".join(Ending(routine, machine, call, answer, regions).lines() + memory_lines(regions, routine)))
+    return STATUS[answer.ending]
+
+
+def is_c(path):
+    return path.endswith(".c")
+
+
+def prepared(options, machine):
+    """The routine of a file, its text if it is a bench text, and the call that the options ask for. A bench text whose table is refused has no
+    routine, and its call takes no names."""
+    if is_c(options.file):
+        routine, text = translate(options.file, read_file(options.file)), None
+    else:
+        text = read_text(Source(options.file, read_file(options.file, "latin-1")), limited=options.memory is None)
+        if machine.check(text.words) is not None:
+            return None, text, Call(text.words, text.memory, text.inputs)
+        routine = routine_of_text(text)
+    memory = memory_length(options.memory) if options.memory else text.memory if text else MEMORY
+    inputs = inputs_of(routine, options.input, text and text.inputs)
+    return routine, text, Call(routine.table.words(), memory, inputs, registers_of(routine, options.register))
+
+
+def raw_lines(answer):
+    """What the bench program prints."""
+    numbers = (answer.command, answer.unused, answer.number, answer.place)
+    lines = [" ".join([answer.ending, *(str(number) for number in numbers if number is not None)])]
+    return lines + [f"{at} {value} {base} {end}" for at, (value, base, end) in enumerate(answer.words) if at]
+
+
+def check(options):
+    """Checks a table."""
+    machine = Machine()
+    routine = text = None
+    if is_c(options.file):
+        routine = translate(options.file, read_file(options.file))
+        words = routine.table.words()
+    else:
+        text = read_text(Source(options.file, read_file(options.file, "latin-1")))
+        words = text.words
+    answer = machine.check(words)
+    if answer is not None:
+        print(shown_refusal(routine, text, Call(words, 0, []), answer))
+        return REFUSED
+    table = (routine or routine_of_text(text)).table
+    print(f"{options.file}: passes: {len(table.variables)} variables, {len(table.nodes)} nodes, {len(table.commands)} commands")
+    return 0
+
+
+def build(options):
+    """Makes the text of a routine in C, or its listing."""
+    if not is_c(options.file):
+        raise Usage(f"mavis build: {options.file}: a file NAME.c is wanted")
+    routine = translate(options.file, read_file(options.file))
+    memory = memory_length(options.memory, MEMORY) if options.memory else MEMORY
+    inputs = inputs_of(routine, options.input)
+    lines = listing(routine) if options.listing else bench_text(routine.table, memory, inputs)
+    write(options.output, "".join(line + "\n" for line in lines))
+    return 0
+
+
+def write(path, text):
+    """Writes to a file, or to standard output where none is named."""
+    if path is None:
+        print(text, end="")
+        return
+    try:
+        with open(path, "w", encoding="utf-8") as file:
+            file.write(text)
+    except OSError as error:
+        raise Usage(f"mavis: {path}: {error.strerror}") from None

@@ -1,0 +1,68 @@
+"""Memory after a run as lines: every word with its name and value, a pointer with what it points to and its bounds."""
+
+from .table import INT
+
+FOLDED = 4  # as many clear words in a row are one line
+
+
+def memory_lines(regions, routine):
+    """All regions, each under its heading."""
+    lines = []
+    for heading, members in grouped(regions, routine):
+        rows = [row for region in members for row in region_rows(regions, region)]
+        lines += ["", heading, *aligned(rows)]
+    return lines
+
+
+def grouped(regions, routine):
+    """Headings with their regions: all variables under one."""
+    variables = [region for region in regions.all if region.what == "variable"]
+    if variables:
+        yield "variables", variables
+    for region in regions.all[len(variables) :]:
+        length = region.end - region.start
+        unit = "" if region.unit is None else f" of {regions.names.type(regions.table, region.unit)}"
+        by = "" if region.command is None else f", {routine.obtained_by(region.command)}"
+        yield f"{region.title}: {length} word{'' if length == 1 else 's'}{unit}{by}", [region]
+
+
+def region_rows(regions, region):
+    """The words of a region as rows of address, name, value and note; clear words in a row are folded."""
+    rows, run = [], []
+    for word in range(region.start, region.end):
+        if regions.words[word] == (0, 0, 0):
+            run.append(word)
+            continue
+        rows += clear_rows(regions, region, run) + [word_row(regions, region, word)]
+        run = []
+    return rows + clear_rows(regions, region, run)
+
+
+def clear_rows(regions, region, run):
+    if len(run) < FOLDED:
+        return [word_row(regions, region, word) for word in run]
+    first, last = run[0], run[-1]
+    return [(f"{first}..{last}", f"{regions.at(region, first)[0]} .. {regions.at(region, last)[0]}", "0", "")]
+
+
+def word_row(regions, region, word):
+    name, type, _ = regions.at(region, word)
+    value, base, end = regions.words[word]
+    return str(word), name or region.name, str(value), note(regions, type, value, base, end)
+
+
+def note(regions, type, value, base, end):
+    """What a word's value means: of a pointer where it points and its bounds."""
+    if not end:
+        return "" if type in (INT, None) else "null" if value == 0 else "no bounds"
+    bounds = f"bounds [{base}, {end}): {regions.stretch_name(base, end)}"
+    if type == INT:
+        return f"an int over {bounds}"
+    outside = "" if base <= value < end else "outside its "
+    return f"-> {regions.word_name(value, type) or 'no word in use'}, {outside}{bounds}"
+
+
+def aligned(rows):
+    """Rows in columns."""
+    widths = [max((len(row[column]) for row in rows), default=0) for column in range(3)]
+    return [f"  {a:>{widths[0]}}  {n:<{widths[1]}} = {v:<{widths[2]}}  {w}".rstrip() for a, n, v, w in rows]
