@@ -87,9 +87,8 @@ class Progress:
             self.show(f"mavis: proving the machine: {crate}, {self.done} of {self.crates} crates, {seconds:.0f} s")
 
     def show(self, line):
-        if sys.stderr.isatty() or self.done == self.crates:
-            print("\r" + line.ljust(self.width), end="", file=sys.stderr, flush=True)
-            self.width = len(line)
+        print("\r" + line.ljust(self.width), end="", file=sys.stderr, flush=True)
+        self.width = len(line)
 
     def end(self):
         if self.width:
@@ -99,18 +98,19 @@ class Progress:
 def build():
     """Proves and links the program if anything below it has changed. `rt` looks at every file, so that no old program is ever used."""
     if not shutil.which("rt"):
-        raise Stop("mavis: the Rattle toolchain is needed: there is no command rt")
+        raise Usage("mavis: the Rattle toolchain is needed: there is no command rt")
     progress = Progress(len(crates_below(PROGRAM)))
-    run = subprocess.Popen(["rt", "check", PROGRAM], cwd=ROOT, stdout=subprocess.PIPE, stderr=subprocess.STDOUT, text=True)
+    command = ["rt", "check", PROGRAM]
     log = []
-    for line in run.stdout:
-        log.append(line)
-        proved = re.match(r"rt: (\w+) proved \((unchanged)?", line)
-        if proved:
-            progress.proved(proved[1], bool(proved[2]))
+    with subprocess.Popen(command, cwd=ROOT, stdout=subprocess.PIPE, stderr=subprocess.STDOUT, text=True) as run:
+        for line in run.stdout:
+            log.append(line)
+            proved = re.match(r"rt: (\w+) proved \((unchanged)?", line)
+            if proved:
+                progress.proved(proved[1], bool(proved[2]))
     progress.end()
-    if run.wait() != 0:
-        raise Stop("".join(log[-20:]) + "mavis: the machine could not be built: rt check replay failed")
+    if run.returncode != 0:
+        raise Stop("".join(log[-20:]) + f"mavis: the machine could not be built: {' '.join(command)} failed")
 
 
 class Machine:

@@ -18,7 +18,7 @@ class Region:
 
     @property
     def title(self):
-        return self.name if self.what == "variable" else f"{self.what} {self.name}"
+        return f"{self.what} {self.name}"
 
 
 class Regions:

@@ -2,6 +2,8 @@
 
 from dataclasses import dataclass
 
+SHOWN = 140  # as many characters of a line are shown
+
 
 @dataclass(frozen=True)
 class Source:
@@ -44,11 +46,14 @@ class Span:
         return f"{self.source.name}:{self.line}:{self.column}"
 
     def pointed(self):
-        """The source line, and under it a caret and tildes below the stretch."""
-        line = self.source.line(self.line)
-        width = min(self.end - self.start, len(line) - self.column + 1)
+        """The source line, and under it a caret and tildes below the stretch. Of a long line the part around the caret."""
+        line, column = self.source.line(self.line), self.column
+        if len(line) > SHOWN:
+            cut = max(0, min(column - SHOWN // 2, len(line) - SHOWN))
+            line, column = line[cut : cut + SHOWN], column - cut
+        width = max(1, min(self.end - self.start, len(line) - column + 1))
         number = f"{self.line:5}"
-        marks = " " * (self.column - 1) + "^" + "~" * (width - 1)
+        marks = " " * (column - 1) + "^" + "~" * (width - 1)
         return f"{number} | {line}\n{' ' * len(number)} | {marks}"
 
     def shown(self, message):

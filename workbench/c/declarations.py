@@ -65,6 +65,8 @@ class Declarations:
         words = [*node.storage, *node.quals, *node.funcspec]
         if words:
             raise Faulty(self.spans.here(), f"{words[0]} is not in the fragment", "leave it out")
+        if getattr(node, "align", None):
+            raise Faulty(self.spans.here(), "an alignment is not in the fragment", "leave it out: every word stands by itself")
         if node.bitsize is not None:
             raise Faulty(self.spans.here(), "a bit-field is not in the fragment", "a field has whole words")
 

@@ -11,7 +11,8 @@ INT_NAMES = ("uint32_t", "int32_t")
 PRELUDE = "".join(f"typedef int {name};" for name in INT_NAMES) + '\n#line 1 "C"\n'
 
 
-def parser():
+def module():
+    """pycparser's parser, or how to get it."""
     try:
         from pycparser import c_parser
     except ImportError:
@@ -21,24 +22,33 @@ def parser():
 
 def parse(source):
     """The declarations and the function of a C text, as pycparser's tree, and the tokens."""
-    c_parser = parser()
+    c_parser = module()
     text = blanked(source)
+    parser = c_parser.CParser()
     try:
-        tree = c_parser.CParser().parse(PRELUDE + text, "C")
+        tree = parser.parse(PRELUDE + text, "C")
     except c_parser.ParseError as error:
-        raise unparsable(source, str(error)) from None
+        raise unparsable(source, str(error), parser) from None
+    except AssertionError:  # version 3 on a brace too many
+        raise unparsable(source, "C: a bracket does not fit", parser) from None
     except RecursionError:
         raise Faulty(Span(source, 0, 1), "this is nested too deep to be parsed") from None
     return tree.ext[len(INT_NAMES) :], tokens_of(source, text)
 
 
-def unparsable(source, message):
+def unparsable(source, message, parser):
     """pycparser's message, where it stands."""
     where = re.match(r".*?:(\d+):(\d+): (.*)", message)
-    if not where:
+    line, column, what = (int(where[1]), int(where[2]), where[3]) if where else (*stopped_at(parser), message.partition(": ")[2])
+    if line is None:
         end = len(source.text.rstrip())
         return Faulty(Span(source, end, end + 1), "this is not C: the text ends too soon")
-    lines = source.text.split("\n")
-    start = sum(len(line) + 1 for line in lines[: int(where[1]) - 1]) + int(where[2]) - 1
-    what = re.sub(r"^before: (.*)", r"it can't be read from `\1` on", where[3])
-    return Faulty(Span(source, start, start + 1), f"this is not C: {what}")
+    start = sum(len(line) + 1 for line in source.text.split("\n")[: line - 1]) + column - 1
+    what = re.sub(r"^before: (.*)", r"it can't be read from `\1` on", what)
+    return Faulty(Span(source, start, start + 1), f"this is not C: {what[:1].lower()}{what[1:]}")
+
+
+def stopped_at(parser):
+    """Where a parser stopped whose message does not say so: version 3 has the next token, and None at the end of the text."""
+    token = getattr(parser, "_peek", lambda: None)()
+    return (token.lineno, token.column) if token else (None, None)

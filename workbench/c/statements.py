@@ -122,12 +122,11 @@ class Text:
         """The parameters, up to after their closing bracket."""
         last = self.spans.matches[self.spans.at]
         self.spans.at += 1
-        listed = args.params if args else []
-        if not (len(listed) == 1 and kind(listed[0]) == "Typename" and listed[0].name is None and self.spans.text(self.spans.at) == "void"):
-            for parameter in listed:
-                self.declarations.parameter(parameter)
-                self.spans.end_of_declarator()
-                self.spans.at += 1
+        nothing = self.spans.at + 1 == last and self.spans.text(self.spans.at) == "void"
+        for parameter in args.params if args and not nothing else []:
+            self.declarations.parameter(parameter)
+            self.spans.end_of_declarator()
+            self.spans.at += 1
         self.spans.at = last + 1
 
     def statement(self, tree):
@@ -145,8 +144,8 @@ class Text:
         if kind(tree) == "UnaryOp" and tree.op in STEPS:
             step = Node(CONSTANT, STEPS[tree.op] % WORD, 0, INT, self.spans.of(tree))
             return self.increased(tree.expr, step, span)
-        if kind(tree) == "FuncCall":
-            self.expressions.value(tree)  # says what is wrong with a call that is none of malloc
+        if kind(tree) in ("FuncCall", "ExprList", "TernaryOp"):
+            self.expressions.value(tree)  # says what is wrong with it, unless it is a malloc
         raise Faulty(span, "this statement assigns nothing", "write an assignment")
 
     def assignment(self, tree, span):
