@@ -29,10 +29,10 @@ def parse(source):
         tree = parser.parse(PRELUDE + text, "C")
     except c_parser.ParseError as error:
         raise unparsable(source, str(error), parser) from None
-    except AssertionError:  # version 3 on a brace too many
-        raise unparsable(source, "C: a bracket does not fit", parser) from None
     except RecursionError:
         raise Faulty(Span(source, 0, 1), "this is nested too deep to be parsed") from None
+    except Exception:  # the parser trips over some texts that are no C
+        raise unparsable(source, "C: it can't be read from here on", parser) from None
     return tree.ext[len(INT_NAMES) :], tokens_of(source, text)
 
 
@@ -49,6 +49,9 @@ def unparsable(source, message, parser):
 
 
 def stopped_at(parser):
-    """Where a parser stopped whose message does not say so: version 3 has the next token, and None at the end of the text."""
-    token = getattr(parser, "_peek", lambda: None)()
-    return (token.lineno, token.column) if token else (None, None)
+    """Where a parser stopped whose message does not say so, as far as it knows: version 3 has the next token."""
+    try:
+        token = parser._peek()
+        return token.lineno, token.column
+    except Exception:
+        return None, None

@@ -21,7 +21,7 @@ class Scope:
     """Structs in the order in which they are defined, and variables by name in the order of the text."""
 
     def __init__(self):
-        self.tags, self.records, self.variables = {}, [], {}
+        self.tags, self.records, self.variables, self.names = {}, [], {}, {}
 
     def record(self, tag, span):
         """The struct of a tag, which may be defined further on."""
@@ -42,13 +42,18 @@ class Scope:
                 raise Faulty(record.span, f"struct {record.tag} is never defined", "define it, or use void *")
 
     def declare(self, name, type, span):
-        if name in RESERVED:
-            raise Faulty(span, f"a variable can't be called {name}")
-        if name in self.variables:
-            earlier = self.variables[name].span.line
-            raise Faulty(span, f"{name} is declared twice, first in line {earlier}", "a name stands for one variable in the whole text")
+        """A variable."""
+        self.name(name, span)
         self.variables[name] = Variable(name, type, span, len(self.variables))
         return self.variables[name]
+
+    def name(self, name, span):
+        """A name for the routine or a variable, which nothing else has."""
+        if name in RESERVED:
+            raise Faulty(span, f"{name} has its own meaning in C", "choose another name")
+        if name in self.names:
+            raise Faulty(span, f"{name} is declared twice, first in line {self.names[name].line}", "a name stands for one thing in the whole text")
+        self.names[name] = span
 
     def variable(self, name, span):
         if name not in self.variables:

@@ -103,7 +103,7 @@ class Text:
             raise Faulty(self.spans.here(), "a second function is not in the fragment", "a text has one routine")
         self.refuse_result(item)
         self.function = item.decl.name
-        self.spans.name(item.decl.name)
+        self.scope.name(self.function, self.spans.name(self.function))
         self.parameters(item.decl.type.args)
         self.spans.go_past("{")
         for statement in item.body.block_items or []:
