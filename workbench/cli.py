@@ -25,6 +25,10 @@ COMMANDS = {
         "check a table; a refusal is told in words",
         "mavis check routines/nocast.txt",
     ),
+    "show": (
+        "show a table as C, with its nodes",
+        "mavis show routines/snapshot.txt",
+    ),
 }
 
 

@@ -9,6 +9,7 @@ from .memory import memory_lines
 from .refusal import shown_refusal
 from .regions import Regions
 from .routine import routine_of_text
+from .show import shown_table
 from .source import Source
 from .text import MEMORY, bench_text, read_text
 from .translate import translate
@@ -65,7 +66,27 @@ def raw_lines(answer):
 
 def check(options):
     """Checks a table."""
-    machine = Machine()
+    routine, refusal = checked(options)
+    if routine is None:
+        print(refusal)
+        return REFUSED
+    table = routine.table
+    print(f"{options.file}: passes: {len(table.variables)} variables, {len(table.nodes)} nodes, {len(table.commands)} commands")
+    return 0
+
+
+def show(options):
+    """Shows a table as C with its nodes."""
+    routine, refusal = checked(options)
+    if routine is None:
+        print(refusal)
+        return REFUSED
+    print("\n".join(shown_table(routine)))
+    return 0
+
+
+def checked(options):
+    """The routine of a file, or None and the refusal of its table in words."""
     routine = text = None
     if is_c(options.file):
         routine = translate(options.file, read_file(options.file))
@@ -73,13 +94,10 @@ def check(options):
     else:
         text = read_text(Source(options.file, read_file(options.file, "latin-1")))
         words = text.words
-    answer = machine.check(words)
+    answer = Machine().check(words)
     if answer is not None:
-        print(shown_refusal(routine, text, Call(words, 0, []), answer))
-        return REFUSED
-    table = (routine or routine_of_text(text)).table
-    print(f"{options.file}: passes: {len(table.variables)} variables, {len(table.nodes)} nodes, {len(table.commands)} commands")
-    return 0
+        return None, shown_refusal(routine, text, Call(words, 0, []), answer)
+    return routine or routine_of_text(text), None
 
 
 def build(options):

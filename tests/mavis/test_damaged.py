@@ -8,14 +8,58 @@ import tempfile
 import unittest
 from pathlib import Path
 
-from support import DECLARATIONS, MACHINE, ROOT, Faulty, routine, translate
+from support import MACHINE, ROOT, Faulty, routine, translate
 
 from workbench.c.tokens import TOKEN, blanked
 from workbench.source import Source
 
 COUNT = 3000
-OTHERS = ["*", "&", "(", ")", "[", "]", "->", ".", "+", "-", "++", "=", "+=", ";", ",", "{", "}", "int", "struct", "void", "sizeof", "malloc"]
-OTHERS += ["0", "1", "4294967295u", "n", "p", "q", "at", "v", "next", "people", "queue", "if", "return", "~", "?", ":", "char", "NULL", '"', "'"]
+OTHERS = [
+    "*",
+    "&",
+    "(",
+    ")",
+    "[",
+    "]",
+    "->",
+    ".",
+    "+",
+    "-",
+    "++",
+    "=",
+    "+=",
+    ";",
+    ",",
+    "{",
+    "}",
+    "int",
+    "struct",
+    "void",
+    "sizeof",
+    "malloc",
+]
+OTHERS += [
+    "0",
+    "1",
+    "4294967295u",
+    "n",
+    "p",
+    "q",
+    "at",
+    "v",
+    "next",
+    "people",
+    "queue",
+    "if",
+    "return",
+    "~",
+    "?",
+    ":",
+    "char",
+    "NULL",
+    '"',
+    "'",
+]
 WHOLE = routine(
     "p = malloc(sizeof(struct calls));\nq = p->queue;\nq[1] = n + 3;\n*(q + 1) += 2;\nat = (struct call *)malloc(sizeof *at + 2);\n"
     "at->next = at;\nat->floors[1] = &(*at).people;\nr = at->next->floors;\n**r = -1;\nv = (void *)&p;\nn = (int)v - 4;\nint k = 0, *j = &k;"
@@ -60,7 +104,10 @@ class Damaged(unittest.TestCase):
         self.assertGreater(len(self.texts) - len(self.translated), COUNT // 2)
 
     def test_tables_pass_the_check(self):
-        lines = [f"1 0 0 0 0 0 0 0 {len(words)} {' '.join(map(str, words))}" for words in (made.table.words() for made in self.translated.values())]
+        lines = [
+            f"1 0 0 0 0 0 0 0 {len(words)} {' '.join(map(str, words))}"
+            for words in (made.table.words() for made in self.translated.values())
+        ]
         for text, answer in zip(self.translated, MACHINE.ask(lines)):
             self.assertEqual(answer, "pass", text)
 

@@ -52,7 +52,9 @@ class Scope:
         if name in RESERVED:
             raise Faulty(span, f"{name} has its own meaning in C", "choose another name")
         if name in self.names:
-            raise Faulty(span, f"{name} is declared twice, first in line {self.names[name].line}", "a name stands for one thing in the whole text")
+            raise Faulty(
+                span, f"{name} is declared twice, first in line {self.names[name].line}", "a name stands for one thing in the whole text"
+            )
         self.names[name] = span
 
     def variable(self, name, span):

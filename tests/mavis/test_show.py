@@ -1,0 +1,69 @@
+"""What `mavis show` prints gives the same table again; what C can't say is said to be so."""
+
+import tempfile
+import unittest
+from pathlib import Path
+
+from support import ROOT, mavis, routine, translate
+from test_fragment import SAME, SAME_TEXTS
+
+from workbench.routine import routine_of_text
+from workbench.show import UNSAYABLE, shown_table
+from workbench.source import Source
+from workbench.text import bench_text, read_text
+
+
+def again(made):
+    """The table of what is shown."""
+    return translate("shown.c", "\n".join(shown_table(made))).table.words()
+
+
+def by_text(made):
+    """The same routine from its text, where it has no names."""
+    return routine_of_text(read_text(Source("made.txt", "\n".join(bench_text(made.table, 16, [0] * len(made.table.variables))))))
+
+
+class Show(unittest.TestCase):
+    def check(self, text):
+        made = translate("made.c", text)
+        self.assertEqual(again(made), made.table.words())
+        self.assertEqual(again(by_text(made)), made.table.words())
+
+    def test_routines(self):
+        for path in sorted(ROOT.glob("routines/*.c")):
+            with self.subTest(path.name):
+                self.check(path.read_text())
+
+    def test_statements(self):
+        for statement in sorted({part for pair in SAME for part in pair}):
+            with self.subTest(statement):
+                self.check(routine(statement))
+        for text in (part for pair in SAME_TEXTS for part in pair):
+            with self.subTest(text):
+                self.check(text)
+
+    def shown(self, words):
+        with tempfile.TemporaryDirectory() as folder:
+            path = Path(folder, "table.txt")
+            path.write_text(words)
+            status, output, _ = mavis("show", str(path))
+        self.assertEqual(status, 0)
+        return output
+
+    def test_what_c_can_not_say(self):
+        for what, text in {
+            "a pointer type that leads to itself": "16 1 0  0 0 1 2 1 2 0 0",
+            "a field of such a type": "16 0  1 1 1 2 1 1 2 0 0 0",
+            "the first word of an array by a follow": "16 2 0 0  1 1 1 0 2 2 65536 0 2 2 0 7 1 1 0 1 0 0 6 1 0 3 2 0 7 3 0 2 4 0 6 5 0 1 0 6",
+        }.items():
+            with self.subTest(what):
+                self.assertIn(UNSAYABLE, self.shown(text))
+
+    def test_a_refused_table(self):
+        status, output, error = mavis("show", "routines/nocast.txt")
+        self.assertEqual((status, error), (3, ""))
+        self.assertIn("refused 8", output)
+
+
+if __name__ == "__main__":
+    unittest.main()
