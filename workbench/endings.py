@@ -5,12 +5,9 @@ from dataclasses import replace
 from .machine import LONGEST
 from .regions import obtained
 from .table import FIELD, MALLOC, VARIABLE
+from .wording import counted
 
 NO_BOUNDS, BEFORE_BASE, PAST_END = 1, 2, 3  # the machine's reasons
-
-
-def words(count):
-    return f"{count} word{'' if count == 1 else 's'}"
 
 
 class Ending:
@@ -36,7 +33,7 @@ class Ending:
         name = self.regions.word_name(cause.place)
         told = [
             self.routine.node_spans[cause.node].shown(f"abort: {self.reason(cause)}"),
-            f"  wanted: {words(cause.words)} at {cause.place}{f': {name}' if name else ''}",
+            f"  wanted: {counted(cause.words, 'word')} at {cause.place}{f': {name}' if name else ''}",
             f"  bounds: {self.bounds(cause)}",
             f"  missed: {self.missed(cause)}",
             f"  values: {', '.join(self.values(cause))}",
@@ -52,8 +49,8 @@ class Ending:
 
     def missed(self, cause):
         if cause.reason == BEFORE_BASE:
-            return f"{words(cause.base - cause.place)} before the base"
-        return f"{words(cause.place + cause.words - cause.end)} past the end"
+            return f"{counted(cause.base - cause.place, 'word')} before the base"
+        return f"{counted(cause.place + cause.words - cause.end, 'word')} past the end"
 
     def bounds(self, cause):
         if cause.reason == NO_BOUNDS:
@@ -80,7 +77,7 @@ class Ending:
         node = self.failed_malloc(answer.command)
         span = self.routine.command_spans[answer.command] if node is None else self.routine.node_spans[node]
         name = "malloc" if node is None else self.routine.node_name(node)
-        left = f"{words(left)} of {memory} {'is' if left == 1 else 'are'} left"
+        left = f"{counted(left, 'word')} of {memory} {'is' if left == 1 else 'are'} left"
         return [span.shown(f"no room: {name} asks for {self.asked_for()}, and {left}"), f"  ending: {self.ending('no room')}"]
 
     def asked_for(self):
@@ -89,7 +86,7 @@ class Ending:
         (answer,) = self.machine.explain([longer])
         start = self.answer.unused
         block = next((block for block in obtained(self.machine, longer, answer, start) if block.start == start), None)
-        return words(block.end - start) if block else f"more than {LONGEST - start} words"
+        return counted(block.end - start, "word") if block else f"more than {LONGEST - start} words"
 
     def failed_malloc(self, command):
         """The command's malloc, or None where it has several."""

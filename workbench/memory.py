@@ -1,6 +1,7 @@
 """Memory after a run as lines: every word with its name and value, a pointer with what it points to and its bounds."""
 
 from .table import INT
+from .wording import counted
 
 FOLDED = 4  # as many clear words in a row are one line
 
@@ -23,7 +24,7 @@ def grouped(regions, routine):
         length = region.end - region.start
         unit = "" if region.unit is None else f" of {regions.names.type(regions.table, region.unit)}"
         by = "" if region.command is None else f", {routine.obtained_by(region.command)}"
-        yield f"{region.title}: {length} word{'' if length == 1 else 's'}{unit}{by}", [region]
+        yield f"{region.title}: {counted(length, 'word')}{unit}{by}", [region]
 
 
 def region_rows(regions, region):

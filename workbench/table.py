@@ -7,7 +7,6 @@ WORD = 1 << 32  # words are below this
 INT, VOID_POINTER, FIRST_POINTER = 0, 1, 2  # types: int, pointer to void, pointer entry 0
 
 (VARIABLE, DEREF, FIELD, CONSTANT, SUM, READ, ADDRESS, CAST, SIZE, MALLOC) = range(1, 11)
-PLACES = (VARIABLE, DEREF, FIELD)
 KIND_NAMES = {
     VARIABLE: "variable",
     DEREF: "follow",
@@ -20,19 +19,21 @@ KIND_NAMES = {
     SIZE: "size",
     MALLOC: "malloc",
 }
-# Which of a node's two operands are nodes themselves, in the order in which they are worked out.
-CHILDREN = {
-    VARIABLE: "",
-    DEREF: "a",
-    FIELD: "a",
-    CONSTANT: "",
-    SUM: "ab",
-    READ: "a",
-    ADDRESS: "a",
-    CAST: "a",
-    SIZE: "",
-    MALLOC: "a",
+# What a node's a and b are.
+VALUE, PLACE, UNUSED = "value", "place", "unused"
+OPERANDS = {
+    VARIABLE: ("variable", UNUSED),
+    DEREF: (VALUE, UNUSED),
+    FIELD: (VALUE, "field"),
+    CONSTANT: ("word", UNUSED),
+    SUM: (VALUE, VALUE),
+    READ: (PLACE, UNUSED),
+    ADDRESS: (PLACE, UNUSED),
+    CAST: (VALUE, "type"),
+    SIZE: ("target", UNUSED),
+    MALLOC: (VALUE, UNUSED),
 }
+FIELD_WORDS = 4096  # the most words that a field has
 
 
 @dataclass(frozen=True)
@@ -135,9 +136,8 @@ class Table:
 
     def children(self, number):
         """A node's own nodes, in the order in which they are worked out."""
-        kind, a, b = self.nodes[number]
-        operands = {"a": a, "b": b}
-        return [operands[name] for name in CHILDREN[kind]]
+        kind, *operands = self.nodes[number]
+        return [child for role, child in zip(OPERANDS[kind], operands) if role in (VALUE, PLACE)]
 
     def worked_out(self, number):
         """A node with all below it, in the order in which the machine finishes them."""

@@ -1,11 +1,11 @@
 """Declarations: structs, their fields and variables."""
 
 from ..errors import Faulty
+from ..table import FIELD_WORDS
 from .parse import INT_NAMES
 from .types import INT, VOID, Array, Int, Member, Pointer, Record, Void
 
 INTS = {"int", "unsigned", "signed", "unsigned int", "signed int", "int unsigned", "int signed", *INT_NAMES}
-FIELD_WORDS = 4096
 NO_TYPES = {"Union": "a union", "Enum": "an enum", "FuncDecl": "a function's type"}
 NO_VARIABLES = {
     Record: ("a variable of struct type", "make it a pointer, and obtain the struct by malloc or hand it in as a register"),

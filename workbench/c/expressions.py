@@ -5,6 +5,7 @@ from dataclasses import dataclass
 from ..errors import Faulty
 from ..source import Span
 from ..table import ADDRESS, CAST, CONSTANT, DEREF, FIELD, MALLOC, READ, SIZE, SUM, VARIABLE, WORD
+from ..wording import article
 from .declarations import kind
 from .numbers import OPERATORS, number_of, written
 from .types import INT, VOID_POINTER, Array, Int, Pointer, Record, Void
@@ -68,7 +69,7 @@ class Expressions:
         else:
             struct = self.place(tree.name)
             if struct.kind is not None:
-                raise Faulty(span, f"`{struct.span.text}` is {article(struct.type)}, and `.` wants a struct", self.arrow_hint(struct))
+                raise Faulty(span, f"`{struct.span.text}` is {article(str(struct.type))}, and `.` wants a struct", self.arrow_hint(struct))
             pointer = struct.a
         return self.field(pointer, tree.field.name, span)
 
@@ -80,7 +81,7 @@ class Expressions:
         """A field of the struct that a pointer points to."""
         record = pointer.type.target if isinstance(pointer.type, Pointer) else None
         if not isinstance(record, Record):
-            raise Faulty(span, f"`{pointer.span.text}` is {article(pointer.type)}, and no pointer to a struct")
+            raise Faulty(span, f"`{pointer.span.text}` is {article(str(pointer.type))}, and no pointer to a struct")
         for number, member in enumerate(self.members(record, span)):
             if member.name == name:
                 return Node(FIELD, pointer, number, member.type, span)
@@ -94,7 +95,7 @@ class Expressions:
     def followed(self, pointer, span):
         """What a pointer points to."""
         if not isinstance(pointer.type, Pointer):
-            raise Faulty(span, f"`{pointer.span.text}` is {article(pointer.type)}, and only a pointer can be followed")
+            raise Faulty(span, f"`{pointer.span.text}` is {article(str(pointer.type))}, and only a pointer can be followed")
         target = pointer.type.target
         if isinstance(target, Void):
             raise Faulty(span, f"`{pointer.span.text}` is a void *, which can't be followed", "cast it first: *(int *)..")
@@ -162,7 +163,7 @@ class Expressions:
         """A value that has to be an int."""
         value = self.value(tree)
         if value.type != INT:
-            raise Faulty(value.span, f"`{value.span.text}` is {article(value.type)}: {wanted}")
+            raise Faulty(value.span, f"`{value.span.text}` is {article(str(value.type))}: {wanted}")
         return value
 
     def value_UnaryOp(self, tree):
@@ -275,9 +276,4 @@ class Expressions:
         if by_void or (to_pointer and self.constant(tree) == 0):
             return Node(CAST, value, type, type, value.span)
         hint = f"write a cast: ({type})" if isinstance(value.type, (Int, Pointer)) else None
-        raise Faulty(value.span, f"`{value.span.text}` is {article(value.type)}, and {article(type)} is wanted", hint)
-
-
-def article(type):
-    """A type in a sentence."""
-    return f"an {type}" if str(type).startswith("int") else f"a {type}"
+        raise Faulty(value.span, f"`{value.span.text}` is {article(str(value.type))}, and {article(str(type))} is wanted", hint)
