@@ -1,0 +1,133 @@
+"""routines/README.md and the routines themselves against the proved machine and the translation from C."""
+
+import unittest
+
+from pages import ROOT, Page, codes, mavis, numbers
+from workbench.commands import raw_lines
+from workbench.endings import BEFORE_BASE, NO_BOUNDS, words
+from workbench.machine import Call, Machine
+from workbench.source import Source
+from workbench.table import CAST, CHILDREN, INT, Table
+from workbench.text import read_text
+from workbench.translate import translate
+
+FOLDER = ROOT / "routines"
+PAGE = Page("routines/README.md")
+MACHINE = Machine()
+NO_CAST = "nocast"  # its table lacks a cast that the translation makes
+
+
+def listed():
+    """The rows of the page's two tables: routines without registers, and with them."""
+    return PAGE.rows("Routines", "Routine | Shows | Ends | Wanted"), PAGE.rows("Routines", "Routine | Registers | Shows | Ends | Wanted")
+
+
+def names(suffix):
+    """The routines that have a file of this kind."""
+    return sorted(path.stem for path in FOLDER.glob(f"*.{suffix}"))
+
+
+def content(name, suffix):
+    path = FOLDER / f"{name}.{suffix}"
+    return path.read_text(encoding="utf-8") if path.is_file() else None
+
+
+def call(name, table=None):
+    """The call of a routine's text with its registers, or of another table in its place."""
+    read = read_text(Source(name, content(name, "txt")))
+    return Call(read.words if table is None else table.words(), read.memory, read.inputs, numbers(content(name, "registers") or "0"))
+
+
+def of_c(name):
+    return translate(f"{name}.c", content(name, "c"))
+
+
+def wanted(cause):
+    """What an aborted run wanted, as the page says it."""
+    if cause is None:
+        return ""
+    if cause.reason == NO_BOUNDS:
+        return f"{words(cause.words)} at {cause.place}, without bounds"
+    side = "before the base" if cause.reason == BEFORE_BASE else "past the end"
+    return f"{words(cause.words)} at {cause.place}, {side} of [{cause.base}, {cause.end})"
+
+
+def without(table, node):
+    """A table without a node that has one child, which takes its place."""
+
+    def number(at):
+        at = table.nodes[at][1] if at == node else at
+        return at - (at > node)
+
+    nodes = []
+    for at, (kind, *operands) in enumerate(table.nodes):
+        renumbered = [number(operand) if letter in CHILDREN[kind] else operand for letter, operand in zip("ab", operands)]
+        nodes += [(kind, *renumbered)] if at != node else []
+    commands = [(number(place), number(value)) for place, value in table.commands]
+    return Table(table.records, table.fields, table.pointers, table.variables, nodes, commands)
+
+
+class RoutinesPage(unittest.TestCase):
+    """The page's two tables."""
+
+    def test_every_routine_is_listed_once(self):
+        plain, with_registers = listed()
+        self.assertEqual((16, 5), (len(plain), len(with_registers)))
+        self.assertEqual(2, len(PAGE.grids))
+        for suffix in ("c", "txt", "out"):
+            with self.subTest(suffix):
+                self.assertEqual(sorted(row[0] for row in plain + with_registers), names(suffix))
+        self.assertEqual(sorted(row[0] for row in with_registers), names("registers"))
+
+    def test_every_file_is_of_a_routine(self):
+        others = [path.name for path in FOLDER.iterdir() if path.suffix not in (".c", ".txt", ".out", ".registers")]
+        self.assertEqual(["README.md", "run"], sorted(others))
+
+    def test_ends_and_wanted(self):
+        plain, with_registers = listed()
+        rows = plain + with_registers
+        for row, answer in zip(rows, MACHINE.explain([call(row[0]) for row in rows])):
+            with self.subTest(row[0]):
+                self.assertEqual(codes(row[-2]), raw_lines(answer)[:1])
+                self.assertEqual(row[-1], wanted(answer.cause))
+
+
+class Routines(unittest.TestCase):
+    """Each routine's three files against each other."""
+
+    maxDiff = None
+
+    def answered(self, calls):
+        """Each call's answer is the routine's NAME.out."""
+        for name, answer in zip(calls, MACHINE.explain(list(calls.values()))):
+            with self.subTest(name):
+                self.assertEqual(content(name, "out").splitlines(), raw_lines(answer))
+
+    def test_texts(self):
+        self.answered({name: call(name) for name in names("c")})
+
+    def test_c(self):
+        self.answered({name: call(name, of_c(name).table) for name in names("c") if name != NO_CAST})
+
+    def test_built(self):
+        """A routine's text is what `mavis build` makes of its C."""
+        for name in names("c"):
+            if name == NO_CAST:
+                continue
+            with self.subTest(name):
+                read, routine = read_text(Source(name, content(name, "txt"))), of_c(name)
+                variables = zip(routine.names.variables, routine.table.variables, read.inputs)
+                inputs = [f"--input={variable}={value}" for variable, type, value in variables if type == INT]
+                built = mavis("build", str(FOLDER / f"{name}.c"), f"--memory={read.memory}", *inputs)
+                self.assertEqual((0, content(name, "txt").splitlines()), built)
+
+    def test_no_cast(self):
+        """The text is what is built, but for the one cast that it lacks; with it the routine passes the check."""
+        table = of_c(NO_CAST).table
+        (cast,) = [at for at, (kind, _, _) in enumerate(table.nodes) if kind == CAST]
+        self.assertEqual(call(NO_CAST).table, without(table, cast).words())
+        self.assertIsNone(MACHINE.check(table.words()))
+
+
+if __name__ == "__main__":
+    unittest.main()
