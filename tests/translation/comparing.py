@@ -3,6 +3,7 @@
 import argparse
 import collections
 import importlib.util
+import itertools
 import multiprocessing
 import shutil
 import tempfile
@@ -58,13 +59,15 @@ class Comparison:
         return Tally(len(made), sum(len(routine.body) for routine in made), ints, addresses, differing)
 
     def described(self, number):
-        """A difference in words, with the routine cut off after the first statement that shows it."""
-        for most in range(routines.STATEMENTS[1] + 1):
-            for level in LEVELS:
-                routine = routines.make(self.seed, number, most)
-                lines = self.differences([routine], level)[0]
-                if lines:
-                    return description(self.seed, number, routine, lines)
+        """A difference in words, with the routine cut off after the first statement that shows it, and in its plain layout if
+        the difference is seen in that too."""
+        for most, plain, level in itertools.product(range(routines.STATEMENTS[1] + 1), [True, False], LEVELS):
+            routine = routines.make(self.seed, number, most)
+            if plain:
+                routine.layout = None
+            lines = self.differences([routine], level)[0]
+            if lines:
+                return description(self.seed, number, routine, lines)
         return description(self.seed, number, routine, ['it differs only together with other routines'])
 
 

@@ -31,6 +31,10 @@ def is_live(value):
     return model.is_address(value) and value.bounds is not None and value.bounds.object is value.word.object
 
 
+def is_live_word(object, offset):
+    return is_live(Value(None, object.values[offset], object.bounds[offset]))
+
+
 class Expressions(Writer):
     def __init__(self, random, memory, records, room):
         super().__init__(random)
@@ -220,7 +224,8 @@ class Expressions(Writer):
     def some_pointer(self, depth):
         way = self.random.random()
         if depth <= 0 or way < 0.55:
-            place = self.place(depth)
+            deep = self.attempt(self.deep_place, depth) if depth > 0 and self.chance(0.7) else None
+            place = self.place(depth) if deep is None else deep
             if place.of.type == INT:
                 raise Undefined
             return self.read(place)
@@ -233,6 +238,32 @@ class Expressions(Writer):
         if way < 0.97:
             return self.cast(self.pointer(depth - 1), self.any_pointer_type())
         return self.obtained(self.any_pointer_type(), False)
+
+    def deep_place(self, depth):
+        """A pointer that is reached through another one, and that can itself be followed: rare among places picked blindly."""
+        pointer = self.pointer(depth - 1)
+        if isinstance(pointer.of.type.target, Record):
+            deep = [(by, field) for by, field in self.members_within(pointer.of) if self.live_words(pointer.of, by, field)]
+            if not deep:
+                raise Undefined
+            by, field = self.random.choice(deep)
+            place = self.member(pointer, lambda: self.number(by, 1), by, field)
+            if field.count is None:
+                return place
+            pointer = self.decay(place)
+        if not isinstance(pointer.of.type.target, Pointer):
+            raise Undefined
+        (object, offset), bounds = pointer.of.word, pointer.of.bounds
+        live = [word - offset for word in range(bounds.low, bounds.high) if is_live_word(object, word)]
+        if not live:
+            raise Undefined
+        by = self.random.choice(live)
+        return self.element(pointer, lambda: self.number(by, 1), by)
+
+    def live_words(self, pointer, by, field):
+        """Whether a field some records on holds a pointer that can be followed."""
+        first = pointer.word.offset + by * pointer.type.target.size + field.offset
+        return field.type != INT and any(is_live_word(pointer.word.object, first + word) for word in range(field.words))
 
     def array(self, depth):
         """The name of an array within a record, or the address of a field that is none."""
@@ -338,7 +369,7 @@ class Expressions(Writer):
         for _ in range(self.pick(0, 1, 1, 2, 2, 3)):
             bare = self.bare_step(bare)
         if self.chance(0.03):
-            bare = self.pick(Bare('malloc(2)', POSTFIX, INT, False), Bare('sizeof(int)', UNARY, INT, False))
+            bare = self.pick(Bare('malloc(2)', POSTFIX, Pointer(VOID), False), Bare('sizeof(int)', UNARY, INT, False))
         words = bare.type.count if isinstance(bare.type, Array) else model.size_of(bare.type)
         return self.size_term(self.at(bare, ADDITIVE), words)
 

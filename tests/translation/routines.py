@@ -67,7 +67,7 @@ class Maker(Declarations, Astray):
         for _ in range(5):
             self.blocks_before = len(self.memory.blocks)
             makers = [self.assignment, self.revival, self.compound, self.step, self.declaration]
-            line = self.attempt(self.random.choices(makers, [50, 16, 14, 12, 8])[0])
+            line = self.attempt(self.random.choices(makers, [46, 22, 13, 11, 8])[0])
             if line is not None:
                 self.routine.body.append(line if isinstance(line, tuple) else (line, line))
                 return
@@ -95,14 +95,19 @@ class Maker(Declarations, Astray):
 
     def revival(self):
         """A pointer that points to nothing gets something, or else most routines would soon have nothing to follow."""
+        left = self.dead_variable() if self.chance(0.6) else self.place(2)
+        if left.of.type == INT:
+            raise Undefined
+        right = self.obtained(left.of.type, True) if self.chance(0.6) else self.pointer_of(left.of.type, 1, True)
+        self.done(left.of, right.of, left.nodes + right.nodes)
+        return f'{left.text} = {right.text};'
+
+    def dead_variable(self):
         dead = [variable for variable in self.memory.variables
                 if variable.type != INT and not isinstance(variable.values[0], model.Address)]
         if not dead:
             raise Undefined
-        left = self.name(self.random.choice(dead))
-        right = self.obtained(left.of.type, True) if self.chance(0.6) else self.pointer_of(left.of.type, 1, True)
-        self.done(left.of, right.of, left.nodes + right.nodes)
-        return f'{left.text} = {right.text};'
+        return self.name(self.random.choice(dead))
 
     # Changes of a place
 
