@@ -11,6 +11,7 @@ from workbench import machine
 NOT_RUN = {
     ".ci/run",
     "tests/compare SEED COUNT",
+    "tests/workbench",
     "perf/run",
     "examples/run",
     "rt staticlib capi",

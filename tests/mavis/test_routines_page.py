@@ -4,12 +4,13 @@ import unittest
 
 from pages import ROOT, Page, codes, mavis, numbers
 from workbench.commands import raw_lines
-from workbench.endings import BEFORE_BASE, NO_BOUNDS, words
+from workbench.endings import BEFORE_BASE, NO_BOUNDS
 from workbench.machine import Call, Machine
 from workbench.source import Source
-from workbench.table import CAST, CHILDREN, INT, Table
+from workbench.table import CAST, INT, OPERANDS, PLACE, VALUE, Table
 from workbench.text import read_text
 from workbench.translate import translate
+from workbench.wording import counted
 
 FOLDER = ROOT / "routines"
 PAGE = Page("routines/README.md")
@@ -47,9 +48,9 @@ def wanted(cause):
     if cause is None:
         return ""
     if cause.reason == NO_BOUNDS:
-        return f"{words(cause.words)} at {cause.place}, without bounds"
+        return f"{counted(cause.words, 'word')} at {cause.place}, without bounds"
     side = "before the base" if cause.reason == BEFORE_BASE else "past the end"
-    return f"{words(cause.words)} at {cause.place}, {side} of [{cause.base}, {cause.end})"
+    return f"{counted(cause.words, 'word')} at {cause.place}, {side} of [{cause.base}, {cause.end})"
 
 
 def without(table, node):
@@ -61,7 +62,7 @@ def without(table, node):
 
     nodes = []
     for at, (kind, *operands) in enumerate(table.nodes):
-        renumbered = [number(operand) if letter in CHILDREN[kind] else operand for letter, operand in zip("ab", operands)]
+        renumbered = [number(operand) if role in (VALUE, PLACE) else operand for role, operand in zip(OPERANDS[kind], operands)]
         nodes += [(kind, *renumbered)] if at != node else []
     commands = [(number(place), number(value)) for place, value in table.commands]
     return Table(table.records, table.fields, table.pointers, table.variables, nodes, commands)
@@ -81,7 +82,7 @@ class RoutinesPage(unittest.TestCase):
 
     def test_every_file_is_of_a_routine(self):
         others = [path.name for path in FOLDER.iterdir() if path.suffix not in (".c", ".txt", ".out", ".registers")]
-        self.assertEqual(["README.md", "run"], sorted(others))
+        self.assertEqual(["README.md", "build", "call.awk", "prove", "run"], sorted(others))
 
     def test_ends_and_wanted(self):
         plain, with_registers = listed()

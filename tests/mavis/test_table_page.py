@@ -12,7 +12,8 @@ from table_page import shared_declarations, sharing_calls, sharing_rows, type_na
 from workbench import text
 from workbench.commands import STATUS
 from workbench.machine import Call
-from workbench.table import ADDRESS, CAST, CHILDREN, DEREF, FIELD, FIRST_POINTER, INT, KIND_NAMES, MALLOC, PLACES, RECORD, SECTIONS, SUM
+from workbench.table import ADDRESS, CAST, DEREF, FIELD, FIRST_POINTER, INT, KIND_NAMES, MALLOC, OPERANDS, PLACE, RECORD, SECTIONS, SUM
+from workbench.table import VALUE, VARIABLE
 from workbench.table import VOID_POINTER, WORD, Spot, Table, spot
 
 # Every table of the page, by its heading and its columns, with its number of rows. Where rows are examples, each of them is run: a row that
@@ -201,9 +202,9 @@ class Kinds(unittest.TestCase):
         for kind, (_, name, a, b, _) in enumerate(rows, 1):
             with self.subTest(name):
                 self.assertIn(name.split(" (")[0], (KIND_NAMES[kind], self.OTHER_NAMES.get(kind)))
-                self.assertEqual(kind in PLACES, name.endswith("(place)"))
+                self.assertEqual(kind in (VARIABLE, DEREF, FIELD), name.endswith("(place)"))
                 nodes = [letter for letter, cell in (("a", a), ("b", b)) if re.match("(value|place)", cell)]
-                self.assertEqual(CHILDREN[kind], "".join(nodes))
+                self.assertEqual("".join(name for name, role in zip("ab", OPERANDS[kind]) if role in (VALUE, PLACE)), "".join(nodes))
                 self.assertEqual(kind not in (FIELD, SUM, CAST), b == "0")
 
     def test_run_time(self):

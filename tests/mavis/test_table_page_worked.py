@@ -22,11 +22,10 @@ class Tables(unittest.TestCase):
         self.table = self.routine.table
 
     def test_written_out(self):
-        """What C leaves out, written out, makes the same table. `&car->stops` stands for an address node: C writes it as `car->stops`."""
+        """What C leaves out, written out, makes the same table."""
         commands = [re.match(r"[^;]*", line)[0] for line in self.example.written_out]
-        self.assertEqual(["stop = &car->stops"], [command for command in commands if "&car->stops" in command])
         before = "\n".join(self.example.c).partition("void routine")[0]
-        self.assertEqual(self.table, routine_of(before, *(command.replace("&car->stops", "car->stops") for command in commands)).table)
+        self.assertEqual(self.table, routine_of(before, *commands).table)
 
     def test_declarations(self):
         words, _, types = declared(self.example.declarations)
@@ -103,9 +102,10 @@ class Why(unittest.TestCase):
         constants = re.search(r"the worked example below with (\d+) in place of (\d+)", cell)
         if constants:
             return WorkedExample.of_page().with_constant(*map(int, constants.groups()))
-        if cell.startswith("routine A"):
-            self.assertIn(codes(cell)[0], (ROOT / "routines/snapshot.c").read_text(encoding="utf-8"))
-            return call_of_text((ROOT / "routines/snapshot.txt").read_text(encoding="utf-8"))
+        if cell.startswith("`routines/"):
+            name, statement = codes(cell)
+            self.assertIn(statement, (ROOT / f"{name}.c").read_text(encoding="utf-8"))
+            return call_of_text((ROOT / f"{name}.txt").read_text(encoding="utf-8"))
         command, type = codes(cell)
         return call_of(routine_of(f"{type}q;", command))
 
