@@ -17,6 +17,10 @@ COMMANDS = {
         "run a routine: how it ends, why, and the memory by name",
         "mavis run routines/beyond.c --register calls=7,12,4 faults=21,1",
     ),
+    "report": (
+        "write a run as a page for the browser: its steps, and the memory at each of them",
+        "mavis report routines/snapshot.c -o snapshot.html",
+    ),
     "build": (
         "make the table of a routine in C, as a text of the bench program",
         "mavis build routines/noroom.c --memory 8 --input floors=3 -o noroom.txt",
@@ -55,10 +59,10 @@ def parser():
 def add_arguments(one, name):
     """The arguments of a command."""
     one.add_argument("file", metavar="FILE", help="C (NAME.c)" if name == "build" else "C (NAME.c), or a text of the bench program")
-    if name in ("run", "build"):
+    if name in ("run", "report", "build"):
         one.add_argument("--memory", metavar="N", help="words of memory; 4096 for C, else as the text says")
         one.add_argument("--input", metavar="NAME=N", action="append", default=[], help="what the int NAME starts as; several can follow")
-    if name == "run":
+    if name in ("run", "report"):
         one.add_argument(
             "--register",
             metavar="NAME=N,N,..",
@@ -66,9 +70,11 @@ def add_arguments(one, name):
             default=[],
             help="words for the pointer NAME, or a file of them: NAME=@FILE; several can follow",
         )
+    if name == "run":
         one.add_argument("--raw", action="store_true", help="print what the bench program prints")
-    if name == "build":
+    if name in ("report", "build"):
         one.add_argument("-o", metavar="FILE", dest="output", help="write to FILE")
+    if name == "build":
         one.add_argument("--listing", action="store_true", help="the C line by line, with its nodes, instead of the text")
 
 

@@ -8,6 +8,7 @@ from .machine import Call, Machine
 from .memory import memory_lines
 from .refusal import shown_refusal
 from .regions import Regions
+from .report.page import refused_page, run_page
 from .routine import routine_of_text
 from .show import shown_table
 from .source import Source
@@ -55,6 +56,19 @@ def prepared(options, machine):
     memory = memory_length(options.memory) if options.memory else text.memory if text else MEMORY
     inputs = inputs_of(routine, options.input, text and text.inputs)
     return routine, text, Call(routine.table.words(), memory, inputs, registers_of(routine, options.register))
+
+
+def report(options):
+    """Writes the page of a run."""
+    machine = Machine()
+    routine, text, call = prepared(options, machine)
+    (answer,) = machine.explain([call])
+    if answer.ending == "refused":
+        page = refused_page(routine, text, call, answer, shown_refusal(routine, text, call, answer))
+    else:
+        page = run_page(routine, machine, call, answer)
+    write(options.output, page)
+    return STATUS[answer.ending]
 
 
 def raw_lines(answer):

@@ -1,0 +1,147 @@
+"""Steps of a run: cut tables, and what each command read, wrote and followed."""
+
+import unittest
+
+from routines import RUNS
+from support import ROOT, translate
+
+from workbench.report.cuts import prefix, probe
+from workbench.machine import Call, Machine
+from workbench.report.picture import Picture
+from workbench.regions import Regions
+from workbench.report.steps import steps_of
+from workbench.table import DEREF, FIELD
+
+MACHINE = Machine()
+DECLARATIONS = "struct calls { int people; struct calls *next; int floors[3]; };\nstruct calls *p, *s; int *q, **r; int n, m;\n"
+
+
+def stepped(text, memory=4096, inputs=None, registers=(0,)):
+    """The routine of a C text, the machine's answer and the steps."""
+    routine = translate("test.c", text)
+    call = Call(routine.table.words(), memory, inputs or [0] * len(routine.table.variables), list(registers))
+    (answer,) = MACHINE.explain([call])
+    return routine, call, answer, steps_of(routine, MACHINE, call, answer)
+
+
+def stepped_statements(statements, **settings):
+    return stepped(f"{DECLARATIONS}void routine(void) {{\n{statements}\n}}\n", **settings)[-2:]
+
+
+class Steps(unittest.TestCase):
+    def test_snapshot(self):
+        *_, steps = stepped((ROOT / RUNS["snapshot"][0]).read_text())
+        told = [(step.command, step.unused, step.read, step.addressed, step.written) for step in steps]
+        expected = [
+            (None, 3, [], [], []),
+            (0, 7, [], [], [1]),
+            (1, 7, [1], [3], [2]),
+            (2, 7, [2], [], [3]),
+            (3, 7, [2], [], [2]),
+            (4, 7, [2], [], []),
+        ]
+        self.assertEqual(told, expected)
+        self.assertEqual([(one.word, one.base, one.end) for step in steps for one in step.followed], [(3, 3, 7), (3, 3, 5)])
+
+    def test_where_follows_lead(self):
+        statements = (
+            "p = malloc(10); p->next = p + 1; p->next->floors[0] = 4; q = p->next->floors; q[2] = q[0]; r = &q; **r = **r + *(*r + 2);"
+        )
+        answer, steps = stepped_statements(statements)
+        self.assertEqual(answer.ending, "done")
+        self.assertEqual([step.written for step in steps[1:]], [[1], [8], [14], [3], [16], [4], [14]])
+        self.assertEqual([step.read for step in steps[1:]], [[], [1, 1], [1, 8], [1, 8], [3, 3, 14], [], [4, 3, 4, 3, 14, 4, 3, 16]])
+        self.assertEqual(steps[-1].changed[14][0], 8)
+
+    def test_failing_commands_tell_what_came_before(self):
+        answer, steps = stepped_statements("q = malloc(2); q[0] = 3; q[1] = q[0] + q[2] + n;")
+        self.assertEqual((answer.ending, steps[-1].read, steps[-1].written), ("abort", [3, 3, 7, 3], []))
+        answer, steps = stepped_statements("q = malloc(2); n = q[2] + q[0];")
+        self.assertEqual((answer.ending, steps[-1].read, steps[-1].followed), ("abort", [3], []))
+        answer, steps = stepped_statements("q = malloc(2); *q = (int)malloc(*q + 99);", memory=20)
+        self.assertEqual((answer.ending, steps[-1].read, steps[-1].written), ("noroom", [3, 3, 7], []))
+        answer, steps = stepped_statements("*(int *)malloc(1) = (int)malloc(5) + *q;")
+        self.assertEqual((answer.ending, answer.unused, steps[-1].unused, steps[-1].written), ("abort", 13, 13, []))
+
+    def test_records_of_any_size(self):
+        for size in (1, 2, 3, 6, 12, 4096):
+            text = f"struct s {{ int first[{size}]; int last; }};\nstruct s *p;\nvoid routine(void) {{ p = malloc(sizeof(struct s)); p->last = 7; }}"
+            *_, steps = stepped(text, memory=8192)
+            self.assertEqual(steps[-1].written, [2 + size])
+
+    def test_only_written_words_change(self):
+        for path in sorted((ROOT / "routines").glob("*.c")):
+            routine = translate(path.name, path.read_text())
+            call = Call(routine.table.words(), 4096, [3 * (type == 0) for type in routine.table.variables])
+            (answer,) = MACHINE.explain([call])
+            steps = steps_of(routine, MACHINE, call, answer)
+            for step in steps[1:]:
+                self.assertLessEqual(set(step.changed), set(step.written), path.name)
+            words = {word: state for step in steps for word, state in step.changed.items()}
+            self.assertEqual([words.get(word, (0, 0, 0)) for word in range(answer.unused)], answer.words)
+            self.assertEqual(Regions(routine, MACHINE, call, answer).all[-1].end, steps[-1].unused)
+
+    def test_a_full_table_is_asked_but_for_its_last_command(self):
+        statements = "q = malloc(4);" + "*q = 1;" * 126
+        routine, call, answer, steps = stepped(f"{DECLARATIONS}void routine(void) {{ {statements} *q = 1; }}")
+        self.assertEqual(len(routine.table.nodes), 512)
+        self.assertEqual([step.told for step in steps], [True] * (len(steps) - 1) + [False])
+        self.assertEqual([steps[-2].written, steps[-1].written], [[7], []])
+
+
+class Pictures(unittest.TestCase):
+    """Words and rows as the page gets them."""
+
+    def pictured(self, text, **settings):
+        routine, call, answer, steps = stepped(text, **settings)
+        return Picture(routine, Regions(routine, MACHINE, call, answer), steps)
+
+    def test_a_pointer_to_what_is_obtained_later(self):
+        picture = self.pictured("int *p, *q, *r;\nvoid routine(void) { p = malloc(1); q = p + 3; r = malloc(8); r[2] = 1; }")
+        notes = [{word[0]: word[4] for word in words} for words in picture.changes()]
+        outside = "outside its bounds [4, 5): block 4"
+        self.assertEqual(
+            [step.get(2) for step in notes], [None, None, f"-> no word in use, {outside}", f"-> block 5, [2], {outside}", None]
+        )
+
+    def test_rows(self):
+        picture = self.pictured("int *p, *q;\nvoid routine(void) { p = malloc(50); q = p + 20; *q = 1; p[49] = 2; }")
+        expected = [[[1, 1], [2, 2]], [[3, 3], [4, 22, "clear"], [23, 23], [24, 51, "clear"], [52, 52]]]
+        self.assertEqual(picture.rows(), expected)
+        self.assertEqual(picture.rows({30, 31})[1][3:6], [[24, 29, "clear"], [30, 30], [31, 31]])
+
+    def test_registers_are_shown_unless_they_are_long(self):
+        text = "int *p;\nvoid routine(void) { p[1] = 7; }"
+        for length in (64, 65):
+            rows = self.pictured(text, registers=[1, 0, length, *([5] * length)]).rows()[1]
+            self.assertEqual(len(rows), {64: 64, 65: 4}[length])
+        self.assertEqual(rows, [[2, 2], [3, 3], [4, 65, "words"], [66, 66]])
+
+
+class Cuts(unittest.TestCase):
+    def test_interleaved_nodes(self):
+        """Nodes of two commands may stand in any order; a cut keeps it."""
+        routine = translate("test.c", f"{DECLARATIONS}void routine(void) {{ n = m + 1; m = n; }}")
+        table = routine.table
+        order = [0, 5, 1, 6, 2, 7, 3, 4]  # where each new node was
+        number = {old: new for new, old in enumerate(order)}
+        mixed = [table.nodes[old] for old in order]
+        table.nodes = [(kind, number[a] if kind in (5, 6) else a, number[b] if kind == 5 else b) for kind, a, b in mixed]
+        table.commands = [(number[place], number[value]) for place, value in table.commands]
+        self.assertIsNone(MACHINE.check(table.words()))
+        for count in range(3):
+            cut, names = prefix(table, count)
+            self.assertIsNone(MACHINE.check(cut.words()))
+            self.assertEqual(names, sorted(names))
+
+    def test_probes_pass_the_check(self):
+        for path in sorted((ROOT / "routines").glob("*.c")):
+            table = translate(path.name, path.read_text()).table
+            for node, (kind, _, _) in enumerate(table.nodes):
+                if kind in (DEREF, FIELD):
+                    cut, _ = probe(table, node, len(table.commands))
+                    self.assertIsNone(MACHINE.check(cut.words()), (path.name, node))
+
+
+if __name__ == "__main__":
+    unittest.main()

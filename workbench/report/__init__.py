@@ -1,0 +1,1 @@
+"""A run as a page for the browser: `mavis report`."""

@@ -1,0 +1,54 @@
+"""Tables made from a table: cut after a command, and cut with a pointer sent out of its bounds."""
+
+from ..table import CONSTANT, OPERANDS, PLACE, SECTIONS, SUM, VALUE, Table
+
+FAR = 1 << 31  # no memory reaches this far, so a pointer moved by it is out of every bounds
+NODES_AT_MOST = next(section.most for section in SECTIONS if section.name == "nodes")
+
+
+def nodes_of(table, command):
+    """A command's nodes in the order in which they are worked out. Each node is used once, so they are its two trees."""
+    place, value = table.commands[command]
+    return table.worked_out(place) + table.worked_out(value)
+
+
+def prefix(table, count):
+    """The table with its first `count` commands alone, and the old numbers of its nodes."""
+    kept = sorted(node for command in range(count) for node in nodes_of(table, command))
+    return renumbered(table, [(node, table.nodes[node]) for node in kept], count)
+
+
+def probe(table, node, count):
+    """The first `count` commands with one follow or field made to fail on purpose: its pointer is moved by FAR. Everything before it is worked
+    out as in the table itself, so that the run aborts at that very node, and its explanation tells where the pointer points. None where the
+    table has no room for the two nodes more."""
+    kept = sorted(node for command in range(count) for node in nodes_of(table, command))
+    if len(kept) + 2 > NODES_AT_MOST:
+        return None
+    entries = []
+    for number in kept:
+        kind, pointer, field = table.nodes[number]
+        if number == node:
+            entries += [("by", (CONSTANT, steps_to(table, pointer), 0)), ("moved", (SUM, pointer, "by"))]
+            pointer = "moved"
+        entries.append((number, (kind, pointer, field)))
+    return renumbered(table, entries, count)
+
+
+def steps_to(table, pointer):
+    """What to add to a pointer to move it by FAR. A record's pointer moves by the record's size, an odd number times a power of two: the
+    sum wraps at 2^32, and there FAR times the odd number is FAR."""
+    record = table.record_of(table.node_type(pointer))
+    size = 1 if record is None else table.record_size(record)
+    return FAR // (size & -size)
+
+
+def renumbered(table, entries, count):
+    """The table with these nodes, given as name and words with names for children, and its first `count` commands; and the nodes' names."""
+    numbers = {name: number for number, (name, _) in enumerate(entries)}
+    nodes = []
+    for _, (kind, *operands) in entries:
+        nodes.append((kind, *(numbers[word] if role in (VALUE, PLACE) else word for role, word in zip(OPERANDS[kind], operands))))
+    commands = [(numbers[place], numbers[value]) for place, value in table.commands[:count]]
+    cut = Table(table.records, table.fields, table.pointers, table.variables, nodes, commands)
+    return cut, list(numbers)
