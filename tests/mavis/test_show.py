@@ -1,5 +1,6 @@
 """What `mavis show` prints gives the same table again; what C can't say is said to be so."""
 
+import sys
 import tempfile
 import unittest
 from pathlib import Path
@@ -7,10 +8,13 @@ from pathlib import Path
 from support import ROOT, mavis, routine, translate
 from test_fragment import SAME, SAME_TEXTS
 
-from workbench.routine import routine_of_text
-from workbench.show import UNSAYABLE, shown_table
-from workbench.source import Source
-from workbench.text import bench_text, read_text
+sys.path.append(str(ROOT / "tests/translation"))
+import routines  # noqa: E402
+
+from workbench.routine import routine_of_text  # noqa: E402
+from workbench.show import UNSAYABLE, shown_table  # noqa: E402
+from workbench.source import Source  # noqa: E402
+from workbench.text import bench_text, read_text  # noqa: E402
 
 
 def again(made):
@@ -41,6 +45,12 @@ class Show(unittest.TestCase):
         for text in (part for pair in SAME_TEXTS for part in pair):
             with self.subTest(text):
                 self.check(text)
+
+    def test_random_routines(self):
+        """Those that the translation is held against gcc with."""
+        for number in range(150):
+            with self.subTest(number):
+                self.check(routines.make(17, number).for_translation())
 
     def shown(self, words):
         with tempfile.TemporaryDirectory() as folder:

@@ -94,8 +94,8 @@ class Pages(unittest.TestCase):
 
     def test_endings(self):
         headlines = {
-            "snapshot": "Aborted in line 16: *q wanted 1 word at 5 (queue[0] in block 3), 1 word past the end of snapshot in block 3. "
-            "Nothing outside its bounds was touched.",
+            "snapshot": "Aborted in line 16: *q wanted 1 word at 5 (queue[0] in block 3), 1 word past the end of snapshot in block 3; "
+            "nothing outside its bounds was touched.",
             "twelve": "Done: all 25 commands were carried out; total is 41.",
             "list": "Done: all 15 commands were carried out; load is 6.",
             "noroom": "No room in line 10: malloc(floors) asked for 3 words, and 1 was left.",
@@ -269,7 +269,9 @@ class Refusals(unittest.TestCase):
         self.assertEqual(status, 3)
         BROWSER.view()
         BROWSER.open(path)
-        self.assertTrue(BROWSER.run("document.querySelector('h1').textContent").startswith("Refused: "))
+        self.assertTrue(
+            BROWSER.run("document.querySelector('h1').textContent").startswith("Refused, and nothing was run: types do not fit ")
+        )
         self.assertEqual(BROWSER.run("document.getElementById('explanation').textContent").strip(), mavis("run", *REFUSED)[1].strip())
         self.assertEqual(BROWSER.run("document.querySelectorAll('#steps, #memory').length"), 2)
         self.assertTrue(BROWSER.run("[...document.querySelectorAll('#steps, #memory')].every((part) => part.hidden)"))
@@ -281,7 +283,7 @@ class Refusals(unittest.TestCase):
     def test_a_call_that_is_refused(self):
         status, output, _ = mavis("report", "routines/list.c", "--memory", "3")
         self.assertEqual(status, 3)
-        self.assertIn("Refused: ", output)
+        self.assertIn("Refused, and nothing was run: ", output)
 
     def test_faulty_c(self):
         path = PICTURES / "faulty.c"

@@ -99,17 +99,16 @@ class Expressions:
         target = pointer.type.target
         if isinstance(target, Void):
             raise Faulty(span, f"`{pointer.span.text}` is a void *, which can't be followed", "cast it first: *(int *)..")
-        if pointer.kind == ADDRESS and isinstance(pointer.a.type, Array):
-            return Node(FIELD, pointer.a.a, pointer.a.b, target, span)  # an array's first word is the field's own place
+        if pointer.kind == ADDRESS:  # `*&x` is x, and `*p->a` the first word of an array, which is the field's own place
+            return Node(pointer.a.kind, pointer.a.a, pointer.a.b, target, span)
         return Node(None if isinstance(target, Record) else DEREF, pointer, 0, target, span)
 
     def element(self, tree):
-        """The pointer that an index makes: `a[i]` is `*(a + i)`, and an index of 0 adds nothing."""
-        span = self.spans.of(tree)
+        """The pointer that an index makes: `a[i]` is `*(a + i)`, and `a[0]` is `*a`."""
         base, index = self.value(tree.name), self.value(tree.subscript)
-        if isinstance(base.type, Pointer) and self.constant(tree.subscript) == 0:
+        if isinstance(base.type, Pointer) and (index.kind, index.a) == (CONSTANT, 0):
             return base
-        return self.added(base, index, span)
+        return self.added(base, index, self.spans.of(tree))
 
     # Values
 

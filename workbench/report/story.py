@@ -39,7 +39,7 @@ class Story:
         name = plain(self.routine.node_name(cause.node))
         if cause.reason == NO_BOUNDS:
             pointer = self.ending.values(cause)[0]
-            return f"Aborted {self.where()}: {name} follows a pointer without bounds ({pointer}). Nothing was touched through it."
+            return f"Aborted {self.where()}: {name} follows a pointer without bounds ({pointer}), and nothing was touched through it."
         what = spoken(self.regions.word_name(cause.place))
         wanted = (
             f"{counted(cause.words, 'word')} at {cause.place} ({what})"
@@ -48,7 +48,7 @@ class Story:
         )
         bounds = spoken(self.regions.stretch_name(cause.base, cause.end))
         missed = self.ending.missed(cause).replace("the base", "the start")
-        return f"Aborted {self.where()}: {name} wanted {wanted}, {missed} of {bounds}. Nothing outside its bounds was touched."
+        return f"Aborted {self.where()}: {name} wanted {wanted}, {missed} of {bounds}; nothing outside its bounds was touched."
 
     def no_room(self):
         left = self.call.memory - self.answer.unused
@@ -129,4 +129,4 @@ def plain(name):
 def refusal_headline(answer, shown):
     """A refusal in one sentence: what its text says behind the number and the place."""
     said = re.search(r"refused \d+[^:\n]*: (.*)", shown.split("\n")[0])
-    return f"Refused: {said[1] if said else 'the call has a fault'} (refusal {answer.number} at place {answer.place}). Nothing was run."
+    return f"Refused, and nothing was run: {said[1] if said else 'the call has a fault'} (refusal {answer.number} at place {answer.place})."
