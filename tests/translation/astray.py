@@ -28,18 +28,18 @@ class Astray(Expressions):
         place = self.sooner_or_later(self.outside, self.pick(0, 1, 2))
         way = self.random.random()
         if way < 0.2 and place.of.type != Pointer(VOID):
-            return self.at(place, POSTFIX) + self.pick('++', '--', ' += 1', ' -= 2') + ';'
+            return self.at(place, POSTFIX) + self.pick("++", "--", " += 1", " -= 2") + ";"
         if way < 0.6:
-            return f'{place.text} = {self.never_worked_out(place.of.type)};'
+            return f"{place.text} = {self.never_worked_out(place.of.type)};"
         left = self.place_of(place.of.type, 1)
-        return f'{left.text} = {place.text};'
+        return f"{left.text} = {place.text};"
 
     def never_worked_out(self, type):
         """A value at the right of a place that goes astray. The place comes first, so that even a malloc here is not done."""
         self.blocks_before = blocks = len(self.memory.blocks)
         right = self.attempt(self.value_for, type, 1)
         del self.memory.blocks[blocks:]
-        return '0' if right is None else right.text
+        return "0" if right is None else right.text
 
     def outside(self, depth):
         pointer = self.loose_pointer() if self.chance(0.2) else self.pointer(depth)

@@ -16,10 +16,10 @@ import routines
 
 ROOT = Path(__file__).resolve().parents[2]
 BATCH = 400  # routines in one program for gcc
-LEVELS = ['-O0', '-O1']  # in turn: C as it is written, and as a compiler rearranges it
+LEVELS = ["-O0", "-O1"]  # in turn: C as it is written, and as a compiler rearranges it
 SHOWN = 5  # differences that are printed in full
 
-Tally = collections.namedtuple('Tally', 'routines statements ints addresses differences')
+Tally = collections.namedtuple("Tally", "routines statements ints addresses differences")
 
 
 class Comparison:
@@ -47,7 +47,7 @@ class Comparison:
 
     def by_native(self, routine, objects):
         if objects is None:
-            return ['the native program stopped before this routine was over']
+            return ["the native program stopped before this routine was over"]
         return judge.against_native(routine, objects)
 
     def batch(self, numbers):
@@ -68,7 +68,7 @@ class Comparison:
             lines = self.differences([routine], level)[0]
             if lines:
                 return description(self.seed, number, routine, lines)
-        return description(self.seed, number, routine, ['it differs only together with other routines'])
+        return description(self.seed, number, routine, ["it differs only together with other routines"])
 
 
 def worker(root, seed):
@@ -86,23 +86,31 @@ def described(number):
 
 def batches(first, count):
     numbers = range(first, first + count)
-    return [numbers[at:at + BATCH] for at in range(0, count, BATCH)]
+    return [numbers[at : at + BATCH] for at in range(0, count, BATCH)]
 
 
 def description(seed, number, routine, lines):
-    given = [f'{variable.name} = {value}' for variable, value in routine.inputs.items()]
-    given += [f'{variable.name} -> {words}' for variable, words in routine.registers]
-    again = f'tests/translation/compare --seed {seed} --first {number} --count 1'
-    return '\n'.join([f'routine {number} of seed {seed} differs ({again}), cut off after the statement that shows it:', '',
-                      routine.for_translation(), 'called with ' + (', '.join(given) or 'nothing'), *lines[:12], ''])
+    given = [f"{variable.name} = {value}" for variable, value in routine.inputs.items()]
+    given += [f"{variable.name} -> {words}" for variable, words in routine.registers]
+    again = f"tests/translation/compare --seed {seed} --first {number} --count 1"
+    return "\n".join(
+        [
+            f"routine {number} of seed {seed} differs ({again}), cut off after the statement that shows it:",
+            "",
+            routine.for_translation(),
+            "called with " + (", ".join(given) or "nothing"),
+            *lines[:12],
+            "",
+        ]
+    )
 
 
 def missing(with_native=True):
     """The first thing that is not there, or None."""
-    if importlib.util.find_spec('pycparser') is None:
-        return 'pycparser'
-    if shutil.which('rt') is None:
-        return 'rt'
+    if importlib.util.find_spec("pycparser") is None:
+        return "pycparser"
+    if shutil.which("rt") is None:
+        return "rt"
     return native.missing() if with_native else None
 
 
@@ -110,6 +118,7 @@ def build(root):
     """Proves and links the machine once, before there are several processes."""
     proved.Workbench(root)
     from workbench.machine import build as build_machine
+
     build_machine()
 
 
@@ -120,28 +129,30 @@ def compare(seed, first, count, jobs):
         for tally in pool.imap_unordered(batch, batches(first, count)):
             total = Tally(*(left + right for left, right in zip(total, tally)))
         for number, text in pool.imap(described, sorted(total.differences)[:SHOWN]):
-            report(text, f'seed-{seed}-routine-{number}.txt')
-    print(f'seed {seed}: {total.routines} routines, {total.statements} statements; {total.ints} ints and {total.addresses} addresses '
-          f'compared; {len(total.differences)} routines differ')
+            report(text, f"seed-{seed}-routine-{number}.txt")
+    print(
+        f"seed {seed}: {total.routines} routines, {total.statements} statements; {total.ints} ints and {total.addresses} addresses "
+        f"compared; {len(total.differences)} routines differ"
+    )
     return 1 if total.differences else 0
 
 
 def report(text, name):
     print(text)
-    folder = ROOT / 'target' / 'translation'
+    folder = ROOT / "target" / "translation"
     folder.mkdir(parents=True, exist_ok=True)
     (folder / name).write_text(text)
 
 
 def main(words):
-    parser = argparse.ArgumentParser(prog='tests/translation/compare', description=__doc__)
-    parser.add_argument('--seed', type=int, default=1)
-    parser.add_argument('--first', type=int, default=0, help='the number of the first routine')
-    parser.add_argument('--count', type=int, default=20000)
-    parser.add_argument('--jobs', type=int, default=2, help='processes')
+    parser = argparse.ArgumentParser(prog="tests/translation/compare", description=__doc__)
+    parser.add_argument("--seed", type=int, default=1)
+    parser.add_argument("--first", type=int, default=0, help="the number of the first routine")
+    parser.add_argument("--count", type=int, default=20000)
+    parser.add_argument("--jobs", type=int, default=2, help="processes")
     options = parser.parse_args(words)
     lacks = missing()
     if lacks:
-        print(f'tests/translation/compare: missing: {lacks}')
+        print(f"tests/translation/compare: missing: {lacks}")
         return 2
     return compare(options.seed, options.first, options.count, options.jobs)

@@ -4,8 +4,10 @@ import model
 from expressions import Expressions
 from model import INT, VOID, WRAP, Field, Object, Pointer, Record
 
-NAMES = ('car door call floor stop load fault next queue hall lift people count size n p q a b x y z node first last at t0 '
-         't1 tmp list bank total Car N sizes mallocs integer voids structs _u i j k').split()
+NAMES = (
+    "car door call floor stop load fault next queue hall lift people count size n p q a b x y z node first last at t0 "
+    "t1 tmp list bank total Car N sizes mallocs integer voids structs _u i j k"
+).split()
 OTHER_POINTERS = [Pointer(INT), Pointer(VOID), Pointer(Pointer(INT))]
 MOST_REGISTERS = 3
 
@@ -17,7 +19,7 @@ def base_of(type):
 
 
 def declarator(type, name):
-    return '*' + declarator(type.target, name) if isinstance(type, Pointer) else name
+    return "*" + declarator(type.target, name) if isinstance(type, Pointer) else name
 
 
 class Declarations(Expressions):
@@ -35,7 +37,7 @@ class Declarations(Expressions):
         for _ in range(self.pick(0, 0, 1, 2, 3)):
             variable = self.new_variable(self.type_of_variable())
             self.routine.parameters.append((self.parameter_text(variable), variable))
-        self.routine.no_parameters = self.pick('void', 'void', 'void', '')
+        self.routine.no_parameters = self.pick("void", "void", "void", "")
         for variable in self.memory.variables:
             if self.chance(0.6):
                 self.hand_in(variable)
@@ -73,30 +75,30 @@ class Declarations(Expressions):
             row = [fields.pop(0)]
             while fields and base_of(fields[0].type) == base_of(row[0].type) and self.chance(0.4):
                 row.append(fields.pop(0))
-            rows.append(self.type(base_of(row[0].type)) + ' ' + ', '.join(self.field_text(field) for field in row) + ';')
-        inner = ' ' + ' '.join(rows) + ' ' if self.chance(0.3) else '\n    ' + '\n    '.join(rows) + '\n'
-        behind = ' ' + self.behind(record) if self.chance(0.1) else ''
-        return f'struct {record.tag} {{{inner}}}{behind};'
+            rows.append(self.type(base_of(row[0].type)) + " " + ", ".join(self.field_text(field) for field in row) + ";")
+        inner = " " + " ".join(rows) + " " if self.chance(0.3) else "\n    " + "\n    ".join(rows) + "\n"
+        behind = " " + self.behind(record) if self.chance(0.1) else ""
+        return f"struct {record.tag} {{{inner}}}{behind};"
 
     def field_text(self, field):
         text, count = declarator(field.type, field.name), field.count
         if count is None:
             return text
         if self.chance(0.8):
-            return f'{text}[{count}]'
-        length = self.pick(f'0x{count:x}', f'0{count:o}', f'{count}u', f'{count - 1} + 1', f'{count + 1} - sizeof(int)')
-        return f'{text}[{length}]'
+            return f"{text}[{count}]"
+        length = self.pick(f"0x{count:x}", f"0{count:o}", f"{count}u", f"{count - 1} + 1", f"{count + 1} - sizeof(int)")
+        return f"{text}[{length}]"
 
     def behind(self, record):
         """Variables that are declared together with their record."""
         types = [self.pick(Pointer(record), Pointer(record), Pointer(Pointer(record))) for _ in range(self.pick(1, 1, 2))]
-        return ', '.join(declarator(type, self.new_variable(type).name) for type in types)
+        return ", ".join(declarator(type, self.new_variable(type).name) for type in types)
 
     # Variables
 
     def new_variable(self, type):
         """It has a name that no other variable has, and is in the memory from here on."""
-        name = self.names.pop() if self.names else f'v{len(self.memory.variables)}'
+        name = self.names.pop() if self.names else f"v{len(self.memory.variables)}"
         variable = Object([0], name, type)
         self.memory.variables.append(variable)
         return variable
@@ -136,10 +138,10 @@ class Declarations(Expressions):
 
     def parameter_text(self, variable):
         """A parameter that is written as an array is a pointer in C."""
-        target = getattr(variable.type, 'target', VOID)
+        target = getattr(variable.type, "target", VOID)
         if target == VOID or isinstance(target, Record) or self.chance(0.9):
             return self.row_text([variable])[:-1]
-        return self.row_text([Object([0], variable.name, target)])[:-1] + self.pick('[]', '[3]')
+        return self.row_text([Object([0], variable.name, target)])[:-1] + self.pick("[]", "[3]")
 
     # What it is called with
 
@@ -149,8 +151,9 @@ class Declarations(Expressions):
             number = self.pick(self.random.randrange(12), WRAP - 1, self.random.randrange(WRAP))
             self.routine.inputs[variable] = variable.values[0] = number
         elif len(self.routine.registers) < MOST_REGISTERS:
-            words = [self.pick(self.random.randrange(9), self.random.randrange(WRAP))
-                     for _ in range(self.register_length(variable.type.target))]
+            words = [
+                self.pick(self.random.randrange(9), self.random.randrange(WRAP)) for _ in range(self.register_length(variable.type.target))
+            ]
             self.routine.registers.append((variable, words))
             if words:
                 register = Object(words)

@@ -20,6 +20,7 @@ class Array(NamedTuple):
 
 class Bare(NamedTuple):
     """An expression within sizeof, which is never worked out: it has a type and need not be defined."""
+
     text: str
     rank: int
     type: Any
@@ -204,9 +205,13 @@ class Expressions(Writer):
             return []
         record, (object, offset), bounds = pointer.type.target, pointer.word, pointer.bounds
         steps = [step for step in range(-FAR, FAR + 1) if 0 <= offset + step * record.size <= len(object.values)]
-        return [(step, field) for step in steps for field in record.fields
-                if bounds.low <= offset + step * record.size + field.offset
-                and offset + step * record.size + field.offset + field.words <= bounds.high]
+        return [
+            (step, field)
+            for step in steps
+            for field in record.fields
+            if bounds.low <= offset + step * record.size + field.offset
+            and offset + step * record.size + field.offset + field.words <= bounds.high
+        ]
 
     # Pointers
 
@@ -306,7 +311,7 @@ class Expressions(Writer):
         return self.fitted(term, type, alone)
 
     def null(self, type, alone):
-        zero = Term(self.pick('0', '0', '0x0', '00', '0u', 'NULL'), POSTFIX, 2, Value(INT, 0))
+        zero = Term(self.pick("0", "0", "0x0", "00", "0u", "NULL"), POSTFIX, 2, Value(INT, 0))
         return self.converted(zero, type) if alone and self.chance(0.8) else self.cast(zero, type)
 
     def fitted(self, term, type, alone):
@@ -328,7 +333,7 @@ class Expressions(Writer):
         size = self.room_for(type)
         if size.of.word > self.room - self.memory.words():
             raise Undefined
-        term = Term(f'malloc({size.text})', POSTFIX, size.nodes + 1, self.memory.allocate(size.of.word))
+        term = Term(f"malloc({size.text})", POSTFIX, size.nodes + 1, self.memory.allocate(size.of.word))
         return self.fitted(term, type, alone)
 
     def room_for(self, type):
@@ -350,26 +355,26 @@ class Expressions(Writer):
 
     def size_of_record(self, record):
         named = [object.name for object in self.memory.variables if object.type == Pointer(record)]
-        inner = '*' + self.random.choice(named) if named and self.chance(0.3) else self.type(record)
+        inner = "*" + self.random.choice(named) if named and self.chance(0.3) else self.type(record)
         return self.size_term(inner, record.size)
 
     # sizeof
 
     def size_term(self, inner, words):
-        return Term(f'sizeof({inner})', UNARY, 1, Value(INT, words))
+        return Term(f"sizeof({inner})", UNARY, 1, Value(INT, words))
 
     def size(self):
         if self.chance(0.35):
             type = self.pick(INT, self.any_pointer_type(), *self.records)
             if not isinstance(type, Record) and self.chance(0.15):
                 count = self.random.randint(1, 9)
-                return self.size_term(f'{self.type(type)}[{count}]', count)
+                return self.size_term(f"{self.type(type)}[{count}]", count)
             return self.size_term(self.type(type), model.size_of(type))
         bare = self.bare_name()
         for _ in range(self.pick(0, 1, 1, 2, 2, 3)):
             bare = self.bare_step(bare)
         if self.chance(0.03):
-            bare = self.pick(Bare('malloc(2)', POSTFIX, Pointer(VOID), False), Bare('sizeof(int)', UNARY, INT, False))
+            bare = self.pick(Bare("malloc(2)", POSTFIX, Pointer(VOID), False), Bare("sizeof(int)", UNARY, INT, False))
         words = bare.type.count if isinstance(bare.type, Array) else model.size_of(bare.type)
         return self.size_term(self.at(bare, ADDITIVE), words)
 
@@ -382,27 +387,29 @@ class Expressions(Writer):
         text, type = self.at(bare, POSTFIX), bare.type
         if isinstance(type, Record):
             field = self.random.choice(type.fields)
-            return Bare(f'{text}.{field.name}', POSTFIX, self.bare_type(field), True)
+            return Bare(f"{text}.{field.name}", POSTFIX, self.bare_type(field), True)
         if type == INT:
-            return self.pick(Bare(f'{text} + 1', ADDITIVE, INT, False), self.bare_address(bare))
+            return self.pick(Bare(f"{text} + 1", ADDITIVE, INT, False), self.bare_address(bare))
         if type == Pointer(VOID):
             return self.bare_address(bare)
         if isinstance(type, Array):
             return self.bare_element(bare, text, type.type)
         if isinstance(type.target, Record) and self.chance(0.6):
             field = self.random.choice(type.target.fields)
-            return Bare(f'{text}->{field.name}', POSTFIX, self.bare_type(field), True)
+            return Bare(f"{text}->{field.name}", POSTFIX, self.bare_type(field), True)
         return self.bare_address(bare) if self.chance(0.1) else self.bare_element(bare, text, type.target)
 
     def bare_type(self, field):
         return field.type if field.count is None else Array(field.type, field.count)
 
     def bare_element(self, bare, text, type):
-        return self.pick(Bare(f'{text}[{self.random.randrange(5)}]', POSTFIX, type, True),
-                         Bare('*' + self.at(bare, UNARY), UNARY, type, True),
-                         Bare(f'{text} + {self.random.randrange(5)}', ADDITIVE, Pointer(type), False))
+        return self.pick(
+            Bare(f"{text}[{self.random.randrange(5)}]", POSTFIX, type, True),
+            Bare("*" + self.at(bare, UNARY), UNARY, type, True),
+            Bare(f"{text} + {self.random.randrange(5)}", ADDITIVE, Pointer(type), False),
+        )
 
     def bare_address(self, bare):
         if not bare.place:
             return bare
-        return Bare('&' + self.at(bare, UNARY), UNARY, Pointer(bare.type), False)
+        return Bare("&" + self.at(bare, UNARY), UNARY, Pointer(bare.type), False)

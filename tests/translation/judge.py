@@ -26,26 +26,26 @@ def against_native(routine, objects):
     expected = routine.memory.objects()
     lengths = [len(words) for _, words in objects]
     if [len(object.values) for object in expected] != lengths:
-        return [f'native has objects of {lengths} words, the model of {[len(object.values) for object in expected]}']
+        return [f"native has objects of {lengths} words, the model of {[len(object.values) for object in expected]}"]
     starts = {id(object): start for object, (start, _) in zip(expected, objects)}
     differences = []
     for place, (object, (_, words)) in enumerate(zip(expected, objects)):
         for offset, value in enumerate(object.values):
             wanted = number_of(value, starts, 4)
             if value is not UNKNOWN and words[offset] != wanted:
-                differences.append(f'{told(routine, place, offset)}: native has {words[offset]}, the model {wanted}')
+                differences.append(f"{told(routine, place, offset)}: native has {words[offset]}, the model {wanted}")
     return differences
 
 
 def against_machine(routine, starts, unused, answer):
     """What differs. The machine has bounds too, and these are compared even where the number is unknown."""
-    if answer.ending == 'refused':
-        return [f'the machine refused the table: {answer.number} at {answer.place}']
-    wanted = ('abort', routine.commands) if routine.astray else ('done', None)
+    if answer.ending == "refused":
+        return [f"the machine refused the table: {answer.number} at {answer.place}"]
+    wanted = ("abort", routine.commands) if routine.astray else ("done", None)
     if (answer.ending, answer.command) != wanted:
-        return [f'the machine ended with {answer.ending} at command {answer.command}, the model with {wanted[0]} at {wanted[1]}']
+        return [f"the machine ended with {answer.ending} at command {answer.command}, the model with {wanted[0]} at {wanted[1]}"]
     if answer.unused != unused:
-        return [f'the machine has words up to {answer.unused}, the model up to {unused}']
+        return [f"the machine has words up to {answer.unused}, the model up to {unused}"]
     differences = []
     for place, object in enumerate(routine.memory.objects()):
         for offset, (value, bounds) in enumerate(zip(object.values, object.bounds)):
@@ -53,7 +53,7 @@ def against_machine(routine, starts, unused, answer):
             wanted = has[0] if value is UNKNOWN else number_of(value, starts, 1)
             low, high = (starts[id(bounds.object)] + end for end in bounds[1:]) if bounds else (0, 0)
             if tuple(has) != (wanted, low, high):
-                differences.append(f'{told(routine, place, offset)}: the machine has {has}, the model {(wanted, low, high)}')
+                differences.append(f"{told(routine, place, offset)}: the machine has {has}, the model {(wanted, low, high)}")
     return differences
 
 
@@ -64,8 +64,8 @@ def told(routine, place, offset):
         return memory.variables[place].name
     place -= len(memory.variables)
     if place < len(memory.registers):
-        return f'register {place}, word {offset}'
-    return f'block {place - len(memory.registers)}, word {offset}'
+        return f"register {place}, word {offset}"
+    return f"block {place - len(memory.registers)}, word {offset}"
 
 
 def compared(routine):

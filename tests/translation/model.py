@@ -8,8 +8,8 @@ the bounds forbid, raises Undefined, so that no routine with such a step is ever
 from typing import Any, NamedTuple, Optional
 
 WRAP = 1 << 32
-INT = 'int'
-VOID = 'void'
+INT = "int"
+VOID = "void"
 UNKNOWN = None
 
 
@@ -75,6 +75,7 @@ class Place(NamedTuple):
 
 class Whole(NamedTuple):
     """A record as a whole: C can only take a field of it, its address and its size."""
+
     pointer: Value
 
 

@@ -7,9 +7,9 @@ Local variables without an initialiser get a zero, since all memory of the machi
 import array
 import subprocess
 
-COMPILER = ['gcc', '-m32', '-std=gnu11', '-fwrapv', '-fno-strict-aliasing', '-w']
+COMPILER = ["gcc", "-m32", "-std=gnu11", "-fwrapv", "-fno-strict-aliasing", "-w"]
 
-HEAD = '''
+HEAD = """
 #include <stdint.h>
 #include <stdio.h>
 #include <stdlib.h>
@@ -50,7 +50,7 @@ static void native_show(unsigned variables, unsigned **places) {
 
 #define malloc(words) native_malloc(words)
 #define sizeof(what) ((unsigned)(sizeof(what) / 4))
-'''
+"""
 
 
 def own_names(routine):
@@ -64,37 +64,45 @@ def caller(routine, number):
     lines, given = [], dict(routine.inputs)
     for place, (variable, words) in enumerate(routine.registers):
         lines.append(f'static const unsigned native_words{place}[] = {{{", ".join(f"{word}u" for word in words + [0])}}};')
-        lines.append(f'void *native_start{place} = native_register({len(words)}, native_words{place});')
-        given[variable] = f'native_start{place}'
+        lines.append(f"void *native_start{place} = native_register({len(words)}, native_words{place});")
+        given[variable] = f"native_start{place}"
     inner = [variable for _, variable in routine.parameters]
-    lines += [f'{variable.name} = {start};' for variable, start in given.items() if variable not in inner]
+    lines += [f"{variable.name} = {start};" for variable, start in given.items() if variable not in inner]
     lines.append(f'{routine.name}({", ".join(str(given.get(variable, 0)) for variable in inner)});')
-    return f'static void native_call{number}(void) {{\n' + '\n'.join(lines) + '\n}\n'
+    return f"static void native_call{number}(void) {{\n" + "\n".join(lines) + "\n}\n"
 
 
 def unit(routine, number):
     names = own_names(routine)
-    places = ', '.join(f'(unsigned *)&{variable.name}' for variable in routine.memory.variables)
-    show = f'    unsigned *native_places[] = {{{places}}};\n    native_show({len(routine.memory.variables)}, native_places);\n}}\n'
-    return ''.join([*(f'#define {name} {name}_{number}\n' for name in names), routine.text(native=True), '\n', show,
-                    caller(routine, number), *(f'#undef {name}\n' for name in names)])
+    places = ", ".join(f"(unsigned *)&{variable.name}" for variable in routine.memory.variables)
+    show = f"    unsigned *native_places[] = {{{places}}};\n    native_show({len(routine.memory.variables)}, native_places);\n}}\n"
+    return "".join(
+        [
+            *(f"#define {name} {name}_{number}\n" for name in names),
+            routine.text(native=True),
+            "\n",
+            show,
+            caller(routine, number),
+            *(f"#undef {name}\n" for name in names),
+        ]
+    )
 
 
 def program(routines):
-    calls = ''.join(f'    native_call{number}();\n' for number in range(len(routines)))
-    units = ''.join(unit(routine, number) for number, routine in enumerate(routines))
-    return HEAD + units + f'int main(void) {{\n{calls}    return 0;\n}}\n'
+    calls = "".join(f"    native_call{number}();\n" for number in range(len(routines)))
+    units = "".join(unit(routine, number) for number, routine in enumerate(routines))
+    return HEAD + units + f"int main(void) {{\n{calls}    return 0;\n}}\n"
 
 
 def run(routines, folder, level):
     """For each routine its objects, each a pair of address and words. A program that stopped has answers for the first few."""
-    source, binary = folder / 'routines.c', folder / 'routines'
+    source, binary = folder / "routines.c", folder / "routines"
     source.write_text(program(routines))
-    compiled = subprocess.run([*COMPILER, level, '-o', str(binary), str(source)], capture_output=True, text=True)
+    compiled = subprocess.run([*COMPILER, level, "-o", str(binary), str(source)], capture_output=True, text=True)
     if compiled.returncode:
-        raise RuntimeError('gcc: ' + '\n'.join(compiled.stderr.splitlines()[:20]))
+        raise RuntimeError("gcc: " + "\n".join(compiled.stderr.splitlines()[:20]))
     output = subprocess.run([str(binary)], stdout=subprocess.PIPE).stdout
-    return answers(array.array('I', output[:len(output) // 4 * 4]))
+    return answers(array.array("I", output[: len(output) // 4 * 4]))
 
 
 def answers(words):
@@ -104,7 +112,7 @@ def answers(words):
         at += 1
         for _ in range(count):
             address, length = words[at], words[at + 1]
-            objects.append((address, words[at + 2:at + 2 + length]))
+            objects.append((address, words[at + 2 : at + 2 + length]))
             at += 2 + length
         found.append(objects)
     return found
@@ -113,8 +121,12 @@ def answers(words):
 def missing():
     """What is not there for native runs, or None."""
     try:
-        tried = subprocess.run([*COMPILER, '-x', 'c', '-o', '/dev/null', '-'], input='#include <stdio.h>\nint main(void) { return 0; }\n',
-                               capture_output=True, text=True)
+        tried = subprocess.run(
+            [*COMPILER, "-x", "c", "-o", "/dev/null", "-"],
+            input="#include <stdio.h>\nint main(void) { return 0; }\n",
+            capture_output=True,
+            text=True,
+        )
     except FileNotFoundError:
-        return 'gcc'
-    return 'gcc -m32 (gcc-multilib)' if tried.returncode else None
+        return "gcc"
+    return "gcc -m32 (gcc-multilib)" if tried.returncode else None

@@ -14,7 +14,7 @@ import comparing
 import routines
 from comparing import ROOT
 
-PLANTED = Path(__file__).resolve().parent / 'planted'
+PLANTED = Path(__file__).resolve().parent / "planted"
 BATCH = 50
 SOUND = 400  # routines that a copy without a mistake must agree on
 
@@ -28,15 +28,15 @@ def apply(edit, root):
     path = None
     old = None
     for line in edit.read_text().splitlines():
-        word, _, rest = line.partition(': ')
-        if word == 'file':
+        word, _, rest = line.partition(": ")
+        if word == "file":
             path = root / rest
             text = path.read_text()
-        elif word == 'old':
+        elif word == "old":
             old = rest
             if text.count(old) != 1:
-                raise Stale(f'its old text stands {text.count(old)} times in {path.relative_to(root)}')
-        elif word == 'new':
+                raise Stale(f"its old text stands {text.count(old)} times in {path.relative_to(root)}")
+        elif word == "new":
             text = text.replace(old, rest)
             path.write_text(text)
 
@@ -44,8 +44,8 @@ def apply(edit, root):
 def copied(folder):
     """A copy of the translator that uses the repository's own machine."""
     root = Path(folder)
-    shutil.copytree(ROOT / 'workbench', root / 'workbench', ignore=shutil.ignore_patterns('__pycache__'))
-    (root / 'target').symlink_to(ROOT / 'target')
+    shutil.copytree(ROOT / "workbench", root / "workbench", ignore=shutil.ignore_patterns("__pycache__"))
+    (root / "target").symlink_to(ROOT / "target")
     return root
 
 
@@ -67,35 +67,35 @@ def tried(task):
         root = copied(folder)
         if edit is None:
             noticed = first_noticed(root, seed, SOUND)
-            return 'no mistake', noticed is None, f'{SOUND} routines agree' if noticed is None else f'routine {noticed[0]}: {noticed[1]}'
+            return "no mistake", noticed is None, f"{SOUND} routines agree" if noticed is None else f"routine {noticed[0]}: {noticed[1]}"
         try:
             apply(edit, root)
         except Stale as stale:
             return edit.stem, False, str(stale)
         noticed = first_noticed(root, seed, count)
     if noticed is None:
-        return edit.stem, False, f'not noticed in {count} routines'
-    return edit.stem, True, f'noticed by routine {noticed[0] + 1}: {noticed[1]}'
+        return edit.stem, False, f"not noticed in {count} routines"
+    return edit.stem, True, f"noticed by routine {noticed[0] + 1}: {noticed[1]}"
 
 
 def main(words):
-    parser = argparse.ArgumentParser(prog='tests/translation/planted-are-noticed', description=__doc__.splitlines()[0])
-    parser.add_argument('--seed', type=int, default=1)
-    parser.add_argument('--count', type=int, default=2000, help='routines that may be needed for one')
-    parser.add_argument('--jobs', type=int, default=2, help='processes')
-    parser.add_argument('names', nargs='*', help='of files in planted/; all of them if none is named')
+    parser = argparse.ArgumentParser(prog="tests/translation/planted-are-noticed", description=__doc__.splitlines()[0])
+    parser.add_argument("--seed", type=int, default=1)
+    parser.add_argument("--count", type=int, default=2000, help="routines that may be needed for one")
+    parser.add_argument("--jobs", type=int, default=2, help="processes")
+    parser.add_argument("names", nargs="*", help="of files in planted/; all of them if none is named")
     options = parser.parse_args(words)
     lacks = comparing.missing(with_native=False)
     if lacks:
-        print(f'tests/translation/planted-are-noticed: missing: {lacks}')
+        print(f"tests/translation/planted-are-noticed: missing: {lacks}")
         return 2
-    edits = [PLANTED / f'{name}.edit' for name in options.names] or sorted(PLANTED.glob('*.edit'))
+    edits = [PLANTED / f"{name}.edit" for name in options.names] or sorted(PLANTED.glob("*.edit"))
     comparing.build(ROOT)
     # A process for each, since a process imports the translator once.
-    with multiprocessing.get_context('spawn').Pool(options.jobs, maxtasksperchild=1) as pool:
+    with multiprocessing.get_context("spawn").Pool(options.jobs, maxtasksperchild=1) as pool:
         results = []
         for name, well, line in pool.imap(tried, [(edit, options.seed, options.count) for edit in [None, *edits]], chunksize=1):
             print(f'{"ok  " if well else "FAIL"} {name}: {line}', flush=True)
             results.append(well)
-    print(f'{sum(results[1:])} of {len(edits)} planted mistakes noticed')
+    print(f"{sum(results[1:])} of {len(edits)} planted mistakes noticed")
     return 0 if all(results) else 1

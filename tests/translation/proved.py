@@ -18,6 +18,7 @@ class Workbench:
         from workbench.errors import Faulty
         from workbench.machine import Call, Machine
         from workbench.translate import translate
+
         self.faulty, self.call_of, self.translate = Faulty, Call, translate
         self.machine = Machine()
         self.machine.built = True  # comparing.build has done that
@@ -31,13 +32,13 @@ class Workbench:
 
     def called(self, routine):
         try:
-            translated = self.translate('routine.c', routine.for_translation())
+            translated = self.translate("routine.c", routine.for_translation())
             order = list(translated.names.variables)
             return self.call(routine, translated.table.words(), order)
         except self.faulty as fault:
-            return Refused(f'refused: {fault}')
+            return Refused(f"refused: {fault}")
         except Exception as fault:  # a mistake in the translator is a difference like any other
-            return Refused(f'the translator fell over: {type(fault).__name__}: {fault}')
+            return Refused(f"the translator fell over: {type(fault).__name__}: {fault}")
 
     def call(self, routine, table, order):
         numbers = {variable: order.index(variable.name) for variable in routine.memory.variables}

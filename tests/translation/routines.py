@@ -19,11 +19,11 @@ class Routine:
     """The parts of its text, what it is called with, and the memory as the model has it at the end."""
 
     def __init__(self):
-        self.name = 'routine'
+        self.name = "routine"
         self.records = []
         self.outside = []  # declarations at file scope, in order
         self.parameters = []  # pairs: text, variable
-        self.no_parameters = 'void'
+        self.no_parameters = "void"
         self.layout = None  # the seed of another layout for the translator's text
         self.body = []  # pairs: a statement, and the same with a zero where a variable has no initialiser
         self.commands = 0  # assignments in it
@@ -34,14 +34,14 @@ class Routine:
 
     def text(self, native=False):
         """All but its last brace; for the native program without the statement that goes astray."""
-        parameters = ', '.join(text for text, _ in self.parameters) or self.no_parameters
-        lines = ['    ' + pair[native] for pair in self.body]
+        parameters = ", ".join(text for text, _ in self.parameters) or self.no_parameters
+        lines = ["    " + pair[native] for pair in self.body]
         if self.astray and not native:
-            lines.append('    ' + self.astray)
-        return '\n'.join([*self.outside, '', f'void {self.name}({parameters}) {{', *lines])
+            lines.append("    " + self.astray)
+        return "\n".join([*self.outside, "", f"void {self.name}({parameters}) {{", *lines])
 
     def for_translation(self):
-        text = self.text() + '\n}\n'
+        text = self.text() + "\n}\n"
         return text if self.layout is None else layout.other(text, self.layout)
 
 
@@ -63,7 +63,7 @@ class Maker(Declarations, Astray):
 
     def statement(self):
         if self.chance(0.005):
-            self.routine.body.append((';', ';'))
+            self.routine.body.append((";", ";"))
         for _ in range(5):
             self.blocks_before = len(self.memory.blocks)
             makers = [self.assignment, self.revival, self.compound, self.step, self.declaration]
@@ -91,7 +91,7 @@ class Maker(Declarations, Astray):
         left = self.place(self.pick(0, 1, 1, 2, 2, 3))
         right = self.value_for(left.of.type, self.pick(0, 1, 2, 2, 3))
         self.done(left.of, right.of, left.nodes + right.nodes)
-        return f'{left.text} = {right.text};'
+        return f"{left.text} = {right.text};"
 
     def revival(self):
         """A pointer that points to nothing gets something, or else most routines would soon have nothing to follow."""
@@ -100,11 +100,12 @@ class Maker(Declarations, Astray):
             raise Undefined
         right = self.obtained(left.of.type, True) if self.chance(0.6) else self.pointer_of(left.of.type, 1, True)
         self.done(left.of, right.of, left.nodes + right.nodes)
-        return f'{left.text} = {right.text};'
+        return f"{left.text} = {right.text};"
 
     def dead_variable(self):
-        dead = [variable for variable in self.memory.variables
-                if variable.type != INT and not isinstance(variable.values[0], model.Address)]
+        dead = [
+            variable for variable in self.memory.variables if variable.type != INT and not isinstance(variable.values[0], model.Address)
+        ]
         if not dead:
             raise Undefined
         return self.name(self.random.choice(dead))
@@ -120,12 +121,12 @@ class Maker(Declarations, Astray):
 
     def step(self):
         place = self.changed_place()
-        sign = self.pick('++', '--')
-        by = Value(INT, 1 if sign == '++' else WRAP - 1)
+        sign = self.pick("++", "--")
+        by = Value(INT, 1 if sign == "++" else WRAP - 1)
         self.done(place.of, model.add(model.read(place.of), by), 2 * place.nodes + 3)
         if self.chance(0.7):
-            return self.at(place, POSTFIX) + sign + ';'
-        return sign + self.at(place, UNARY) + ';'
+            return self.at(place, POSTFIX) + sign + ";"
+        return sign + self.at(place, UNARY) + ";"
 
     def compound(self):
         place = self.changed_place()
@@ -157,8 +158,8 @@ class Maker(Declarations, Astray):
             type = self.other_stars(first) if parts and self.chance(0.5) else first
             variable, right = self.local(type)
             text = declarator(type, variable.name)
-            parts.append(text if right is None else f'{text} = {right.text}')
-            zeroed.append(f'{text} = 0' if right is None else parts[-1])
+            parts.append(text if right is None else f"{text} = {right.text}")
+            zeroed.append(f"{text} = 0" if right is None else parts[-1])
         base = self.type(base_of(first))
         return f'{base} {", ".join(parts)};', f'{base} {", ".join(zeroed)};'
 
@@ -180,4 +181,4 @@ class Maker(Declarations, Astray):
 
 def make(seed, number, most=STATEMENTS[1]):
     """Routine NUMBER of SEED; most cuts it off after so many statements, for a shorter example of the same difference."""
-    return Maker(randomness.Random(f'{seed} {number}'), most).routine
+    return Maker(randomness.Random(f"{seed} {number}"), most).routine
