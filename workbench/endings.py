@@ -90,6 +90,5 @@ class Ending:
 
     def failed_malloc(self, command):
         """The command's malloc, or None where it has several."""
-        nodes = [n for part in self.table.commands[command] for n in self.table.worked_out(part)]
-        mallocs = [n for n in nodes if self.table.nodes[n][0] == MALLOC]
+        mallocs = [n for n in self.table.nodes_of(command) if self.table.nodes[n][0] == MALLOC]
         return mallocs[0] if len(mallocs) == 1 else None

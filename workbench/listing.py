@@ -35,13 +35,10 @@ def declared(entries, routine, scope):
 
 def commanded(entries, routine):
     """Commands with their nodes, by the line that they begin in."""
-    table, unparser = routine.table, routine.unparser
-    for number, (place, value) in enumerate(table.commands):
+    for number, (place, value) in enumerate(routine.table.commands):
         below = entries[routine.command_spans[number].line]
         below.append(f"command {number}: {place} {value}")
-        for node in table.worked_out(place) + table.worked_out(value):
-            words = " ".join(map(str, table.nodes[node]))
-            below.append(f"  {node:3}  {words:<14} {unparser.text(node)}")
+        below += [f"  {line}" for line in routine.node_lines(number)]
 
 
 def pointer_types(routine):

@@ -58,7 +58,7 @@ class Regions:
 
     def malloc_units(self, command):
         """For each malloc of a command, in the order in which they are worked out, what its pointer is cast to point to."""
-        nodes = [n for part in self.table.commands[command] for n in self.table.worked_out(part)]
+        nodes = self.table.nodes_of(command)
         casts = {self.table.nodes[n][1]: self.table.nodes[n][2] for n in nodes if self.table.nodes[n][0] == CAST}
         return [self.table.target(casts[n]) if n in casts else None for n in nodes if self.table.nodes[n][0] == MALLOC]
 

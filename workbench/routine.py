@@ -33,6 +33,11 @@ class Routine:
             return f"`{self.node_spans[number].text}`"
         return f"node {number}, `{self.unparser.text(number)}`,"
 
+    def node_lines(self, command):
+        """The nodes of a command: number, words, and how C writes it."""
+        told = ((node, " ".join(map(str, self.table.nodes[node]))) for node in self.table.nodes_of(command))
+        return [f"{node:3}  {words:<14} {self.unparser.text(node)}" for node, words in told]
+
     def obtained_by(self, command):
         """Which command obtained a block, in a sentence."""
         return f"obtained in line {self.command_spans[command].line}" if self.is_c else f"obtained by command {command}"

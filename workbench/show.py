@@ -68,14 +68,9 @@ def declared(routine, type, name):
 
 def node_lines(routine, number):
     """A command's nodes, in a comment."""
-    table = routine.table
-    place, value = table.commands[number]
-    lines = [f"    /* command {number}: {place} {value}"]
-    for node in table.worked_out(place) + table.worked_out(value):
-        words = " ".join(map(str, table.nodes[node]))
-        lines.append(f"       {node:3}  {words:<14} {routine.unparser.text(node)}")
-    lines[-1] += " */"
-    return lines
+    place, value = routine.table.commands[number]
+    lines = [f"    /* command {number}: {place} {value}", *(f"       {line}" for line in routine.node_lines(number))]
+    return lines[:-1] + [f"{lines[-1]} */"]
 
 
 def are_said(routine, numbers, declared, commands):

@@ -147,6 +147,11 @@ class Table:
             stack.extend(self.children(order[-1]))
         return order[::-1]
 
+    def nodes_of(self, command):
+        """A command's nodes in the order in which they are worked out. Each node is used once, so they are its two trees."""
+        place, value = self.commands[command]
+        return self.worked_out(place) + self.worked_out(value)
+
 
 @dataclass(frozen=True)
 class Spot:

@@ -70,8 +70,7 @@ def bench_text(table, memory, inputs):
     for entries in table.sections()[:4]:
         lines.append([len(entries), *(word for entry in entries for word in entry)])
     lines.append([len(table.nodes)])
-    for place, value in table.commands:
-        nodes = table.worked_out(place) + table.worked_out(value)
-        lines.append([word for node in nodes for word in table.nodes[node]])
+    for command in range(len(table.commands)):
+        lines.append([word for node in table.nodes_of(command) for word in table.nodes[node]])
     lines.append([len(table.commands), *(node for command in table.commands for node in command)])
     return [" ".join(map(str, line)) for line in lines]

@@ -6,15 +6,9 @@ FAR = 1 << 31  # no memory reaches this far, so a pointer moved by it is out of 
 NODES_AT_MOST = next(section.most for section in SECTIONS if section.name == "nodes")
 
 
-def nodes_of(table, command):
-    """A command's nodes in the order in which they are worked out. Each node is used once, so they are its two trees."""
-    place, value = table.commands[command]
-    return table.worked_out(place) + table.worked_out(value)
-
-
 def prefix(table, count):
     """The table with its first `count` commands alone, and the old numbers of its nodes."""
-    kept = sorted(node for command in range(count) for node in nodes_of(table, command))
+    kept = sorted(node for command in range(count) for node in table.nodes_of(command))
     return renumbered(table, [(node, table.nodes[node]) for node in kept], count)
 
 
@@ -22,7 +16,7 @@ def probe(table, node, count):
     """The first `count` commands with one follow or field made to fail on purpose: its pointer is moved by FAR. Everything before it is worked
     out as in the table itself, so that the run aborts at that very node, and its explanation tells where the pointer points. None where the
     table has no room for the two nodes more."""
-    kept = sorted(node for command in range(count) for node in nodes_of(table, command))
+    kept = sorted(node for command in range(count) for node in table.nodes_of(command))
     if len(kept) + 2 > NODES_AT_MOST:
         return None
     entries = []

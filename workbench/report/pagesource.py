@@ -46,9 +46,9 @@ def table_source(routine, answer):
     """The commands of a table as C would write them, each with its nodes."""
     table, unparser = routine.table, routine.unparser
     items = []
-    for number, (place, value) in enumerate(table.commands):
+    for number in range(len(table.commands)):
         nodes = []
-        for node in table.worked_out(place) + table.worked_out(value):
+        for node in table.nodes_of(number):
             numbers = " ".join(map(str, table.nodes[node]))
             failed = ' class="failed"' if answer.cause and node == answer.cause.node else ""
             nodes.append(f"<li{failed}><b>{node}</b> <span>{numbers}</span> <code>{html.escape(unparser.text(node))}</code></li>")

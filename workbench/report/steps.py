@@ -4,7 +4,7 @@ once, on purpose. Nothing is worked out here but which word a number of an answe
 
 from dataclasses import dataclass, field, replace
 
-from .cuts import FAR, nodes_of, prefix, probe
+from .cuts import FAR, prefix, probe
 from ..errors import Stop
 from ..table import ADDRESS, DEREF, FIELD, MALLOC, READ, VARIABLE, WORD
 
@@ -76,7 +76,7 @@ def follows(table, machine, call, answer, count):
     not passed; and the probe of one that the run did not come to ends elsewhere."""
     asked, untold = [], set()
     for command in range(count):
-        for node in nodes_of(table, command):
+        for node in table.nodes_of(command):
             if table.nodes[node][0] not in (DEREF, FIELD) or (answer.cause and node == answer.cause.node):
                 continue
             made = probe(table, node, command + 1)
@@ -98,7 +98,7 @@ def passed(table, node, cause):
 
 def reached(table, answer, command):
     """The nodes of a command that were worked out: all, or those before the check or the first malloc that can have ended the run."""
-    nodes = nodes_of(table, command)
+    nodes = table.nodes_of(command)
     if command != answer.command:
         return nodes
     ends = [n for n in nodes if (n == answer.cause.node if answer.cause else table.nodes[n][0] == MALLOC)]
@@ -109,7 +109,7 @@ def describe(step, table, followed, nodes, done):
     """What a command read, wrote and took addresses of: the words that its places are, of those nodes that were worked out."""
     place = table.commands[step.command][0]
     words = {node: 1 + table.nodes[node][1] for node in nodes if table.nodes[node][0] == VARIABLE}
-    for node in nodes_of(table, step.command):
+    for node in table.nodes_of(step.command):
         kind, child, _ = table.nodes[node]
         if node in followed:
             words[node] = followed[node].word
