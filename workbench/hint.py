@@ -4,6 +4,8 @@ mostly written with whole entries on a line and each section at the start of one
 from .table import SECTIONS
 from .wording import counted
 
+NODE = 3  # words; nodes go over many lines
+
 
 def suspect(text):
     """The section and the line where a word may be missing or too many; None where the lines of a text break nothing."""
@@ -16,11 +18,12 @@ def suspect(text):
         for start in starts:
             if at < start < end and (start - at - 1) % width:
                 return section, lines[start - 1]  # an entry goes over the line's end: the line is short, or long
+            if at + 1 < start < end and lines[start - 1] == lines[at] and width < NODE:
+                return section, lines[at]  # so does a section that begins with entries beside its count, as short ones do
         if end >= len(lines):
             return None
-        if end not in starts:  # the section ends within a line: this one is long, or a word of the section was taken from it
-            taken = width == 1 and lines[at] != lines[end]
-            return section, lines[end] - taken
+        if end not in starts:
+            return section, lines[end]  # the section ends within the line: that is long
         at = end
     return None
 

@@ -256,7 +256,7 @@ class Refusals(unittest.TestCase):
             self.assertGreaterEqual(words[place], at.entry)
 
     def test_dropped_and_doubled_words_are_found(self):
-        """Of all texts with one word dropped or doubled at least 85 in 100 are told the very line, and at most 2 or 3 another one."""
+        """Of all texts with one word dropped or doubled most are told the very line, and one in a hundred a line beside it."""
         told = collections.Counter()
         for text in texts():
             cases = list(one_word_off(text))
@@ -265,8 +265,8 @@ class Refusals(unittest.TestCase):
                 if verdict:
                     said = hint(changed, verdict[1])
                     told["none" if said is None else "right" if f"line {line}," in said else "wrong"] += 1
-        self.assertGreater(told["right"] / told.total(), 0.85, told)
-        self.assertLess(told["wrong"] / told.total(), 0.025, told)
+        self.assertGreater(told["right"] / sum(told.values()), 0.88, told)
+        self.assertLess(told["wrong"] / sum(told.values()), 0.012, told)
 
     def test_texts_broken_at_will_have_no_hint(self):
         rng = random.Random(4)
