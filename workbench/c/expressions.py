@@ -105,10 +105,11 @@ class Expressions:
 
     def element(self, tree):
         """The pointer that an index makes: `a[i]` is `*(a + i)`, and `a[0]` is `*a`."""
+        span = self.spans.of(tree)
         base, index = self.value(tree.name), self.value(tree.subscript)
         if isinstance(base.type, Pointer) and (index.kind, index.a) == (CONSTANT, 0):
             return base
-        return self.added(base, index, self.spans.of(tree))
+        return self.added(base, index, span)
 
     # Values
 
