@@ -1,11 +1,13 @@
 """The proved machine: the program `replay`, which answers a call a line (the crate `cases` says how a line is read). Nothing here works out an
 answer: it builds the program, writes the lines and reads what comes back."""
 
+import fcntl
 import re
 import shutil
 import subprocess
 import sys
 import time
+from contextlib import contextmanager
 from dataclasses import dataclass, field
 from pathlib import Path
 
@@ -95,6 +97,14 @@ class Progress:
             print(file=sys.stderr)
 
 
+@contextmanager
+def alone():
+    """One build at a time: of two at once each takes the other's notes for its own, and proves everything again. routines/prove has this lock too."""
+    with open(ROOT / "crates.txt") as file:
+        fcntl.flock(file, fcntl.LOCK_EX)
+        yield
+
+
 def build():
     """Proves and links the program if anything below it has changed. `rt` looks at every file, so that no old program is ever used."""
     if not shutil.which("rt"):
@@ -102,7 +112,7 @@ def build():
     progress = Progress(len(crates_below(PROGRAM)))
     command = ["rt", "check", PROGRAM]
     log = []
-    with subprocess.Popen(command, cwd=ROOT, stdout=subprocess.PIPE, stderr=subprocess.STDOUT, text=True) as run:
+    with alone(), subprocess.Popen(command, cwd=ROOT, stdout=subprocess.PIPE, stderr=subprocess.STDOUT, text=True) as run:
         for line in run.stdout:
             log.append(line)
             proved = re.match(r"rt: (\w+) proved \((unchanged)?", line)

@@ -2,6 +2,8 @@
 
 import os
 import stat
+import subprocess
+import sys
 import tempfile
 import unittest
 from pathlib import Path
@@ -186,7 +188,8 @@ class Building(unittest.TestCase):
             return result, Path(folder, "called").read_text() if Path(folder, "called").exists() else ""
 
     def setUp(self):
-        MACHINE.check([0] * 6)  # the program is there, whatever stands in place of rt
+        MACHINE.check([0] * 6)  # the programs are there, whatever stands in place of rt
+        subprocess.run([ROOT / "routines/prove", "why"], check=True)
 
     def test_every_use_asks_rt(self):
         (status, _, error), called = self.with_rt(
@@ -199,6 +202,20 @@ class Building(unittest.TestCase):
         (status, _, error), _ = self.with_rt(script, "check", "routines/list.txt")
         self.assertEqual((status, error.count("\n")), (0, 1))
         self.assertRegex(error, r"words, 2 of [0-9]+ crates, [0-9]+ s *\n")
+
+    def test_one_build_at_a_time(self):
+        """Two commands at once: rt is asked by one after the other."""
+        with tempfile.TemporaryDirectory() as folder:
+            path = Path(folder, "rt")
+            path.write_text(f'#!/bin/sh\necho begin >> "{folder}/log"\nsleep 0.5\necho end >> "{folder}/log"\n')
+            path.chmod(path.stat().st_mode | stat.S_IXUSR)
+            scripts = [[sys.executable, ROOT / "mavis", "check", "routines/list.txt"], [ROOT / "routines/run", "--why", "list"]]
+            environment = {**os.environ, "PATH": f"{folder}:{os.environ['PATH']}"}
+            runs = [
+                subprocess.Popen(each, cwd=ROOT, env=environment, stdout=subprocess.DEVNULL, stderr=subprocess.DEVNULL) for each in scripts
+            ]
+            self.assertEqual([run.wait() for run in runs], [0, 0])
+            self.assertEqual(Path(folder, "log").read_text().split(), ["begin", "end"] * 2)
 
     def test_a_failed_build_is_told(self):
         (status, output, error), _ = self.with_rt("echo 'rt: steps: not proved'; exit 1", "check", "routines/list.txt")
