@@ -1,6 +1,7 @@
 """How a run ended, in words: where, what was wanted, and by how much it missed."""
 
 from dataclasses import replace
+from functools import cached_property
 
 from .machine import LONGEST
 from .regions import obtained
@@ -78,8 +79,9 @@ class Ending:
         span = self.routine.command_spans[answer.command] if node is None else self.routine.node_spans[node]
         name = "malloc" if node is None else self.routine.node_name(node)
         left = f"{counted(left, 'word')} of {memory} {'is' if left == 1 else 'are'} left"
-        return [span.shown(f"no room: {name} asks for {self.asked_for()}, and {left}"), f"  ending: {self.ending('no room')}"]
+        return [span.shown(f"no room: {name} asks for {self.asked_for}, and {left}"), f"  ending: {self.ending('no room')}"]
 
+    @cached_property
     def asked_for(self):
         """The words asked for: what the same run obtains there in the longest memory."""
         longer = replace(self.call, memory=LONGEST)

@@ -17,7 +17,7 @@ def shown_refusal(routine, text, call, answer):
         fault, where, span = table_fault(call.table, number, place), str(spot(call.table, place)), table_span(routine, text, call, place)
     else:
         fault, where, at = CALL_FAULTS[number](routine, call, place)
-        span = read_numbers(text.source)[1][at] if text and at is not None else None
+        span = given_in(text, call, at) if text and at is not None else None
     head = f"refused {number}, place {place}: {fault.title}"
     name = (routine or text).source.name
     lines = [span.shown(head) if span else f"{name}: {head}", f"  where: {where}", f"  wrong: {fault.wrong}", f"  fits:  {fault.fits}"]
@@ -32,6 +32,12 @@ def table_span(routine, text, call, place):
     at = spot(call.table, place)
     spans = {"nodes": routine.node_spans, "commands": routine.command_spans}.get(at.section.name if at.section else None)
     return spans[at.entry] if spans and at.entry is not None else None
+
+
+def given_in(text, call, at):
+    """The number of a text that a call was refused for; None where an option gave another one."""
+    numbers, spans = read_numbers(text.source)
+    return spans[at] if numbers[at] == [call.memory, len(call.inputs), *call.inputs][at] else None
 
 
 # Refusals of a call: what is wrong, where it is in words, and which number of a text has it.

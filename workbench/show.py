@@ -1,11 +1,12 @@
 """A table as C with its entries beside it. For a table that was made from C, the C that is printed gives the same table again. What C can't say
 is in a comment, with its nodes."""
 
-from .errors import Faulty
+from .errors import Faulty, Usage
 from .table import CAST, SIZE
 from .translate import translate
 
 UNSAYABLE = "C can't say this:"
+UNTRIED = "/* pycparser is missing, so that this C was not translated to see that it gives the same table */"
 
 
 def shown_table(routine):
@@ -13,8 +14,11 @@ def shown_table(routine):
     declared = declarations(routine)
     count = len(routine.table.commands)
     commands = [routine.unparser.command(number) for number in range(count)]
-    said = are_said(routine, range(count), declared, commands)
-    lines = [*declared, "void routine(void) {"]
+    try:
+        said, remark = are_said(routine, range(count), declared, commands), []
+    except Usage:
+        said, remark = True, [UNTRIED]
+    lines = [*remark, *declared, "void routine(void) {"]
     for number, command in enumerate(commands):
         lines += node_lines(routine, number)
         is_c = said or are_said(routine, [number], declared, [command])

@@ -3,7 +3,7 @@
 from .c import types
 from .c.expressions import Node
 from .c.parse import parse
-from .c.statements import Text
+from .c.statements import Reader
 from .errors import Faulty
 from .names import FieldName, Names
 from .routine import Routine
@@ -16,7 +16,7 @@ CALLED = {"records": "structs", "pointers": "pointer types"}
 def translate(name, text):
     """The routine of a C text of this name. Raises Faulty for what is not in the fragment."""
     source = Source(name, text)
-    return Numbering(Text(source, *parse(source)).read()).routine()
+    return Numbering(Reader(source, *parse(source)).read()).routine()
 
 
 class Numbering:

@@ -320,6 +320,9 @@ class Calls(unittest.TestCase):
                 self.assertTrue(output.startswith(first), output)
                 self.assertIn(f"  wrong: {wrong}\n", output)
 
+    def test_a_memory_by_option_is_not_in_the_text(self):
+        self.assertTrue(self.told("routines/list.txt", "--memory", "3").startswith("routines/list.txt: refused 10, place 0: "))
+
     def test_too_many_registers(self):
         declarations = "".join(f"int *p{i};" for i in range(17))
         with tempfile.TemporaryDirectory() as folder:

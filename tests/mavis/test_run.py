@@ -237,7 +237,8 @@ class Building(unittest.TestCase):
             status, output, error = mavis("check", "routines/list.c", PYTHONPATH=folder)
             self.assertEqual((status, output, error.count("\n")), (64, "", 1))
             self.assertIn("apt-get install python3-pycparser", error)
-            self.assertEqual(mavis("run", "routines/list.txt", PYTHONPATH=folder)[0], 0)
+            for command in ("run", "check", "show", "report"):
+                self.assertEqual(mavis(command, "routines/list.txt", PYTHONPATH=folder)[0], 0, command)
 
     def test_from_another_folder(self):
         with tempfile.TemporaryDirectory() as folder:

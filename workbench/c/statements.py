@@ -40,7 +40,7 @@ class Command:
     span: Span
 
 
-class Text:
+class Reader:
     """Reads a C text: its scope and its commands."""
 
     def __init__(self, source, items, tokens):

@@ -52,7 +52,9 @@ class Story:
 
     def no_room(self):
         left = self.call.memory - self.answer.unused
-        return f"No room {self.where()}: {self.malloc()} asked for {self.ending.asked_for()}, and {left} {'was' if left == 1 else 'were'} left."
+        return (
+            f"No room {self.where()}: {self.malloc()} asked for {self.ending.asked_for}, and {left} {'was' if left == 1 else 'were'} left."
+        )
 
     def malloc(self):
         node = self.ending.failed_malloc(self.answer.command)
