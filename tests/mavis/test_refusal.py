@@ -256,7 +256,7 @@ class Refusals(unittest.TestCase):
             self.assertGreaterEqual(words[place], at.entry)
 
     def test_dropped_and_doubled_words_are_found(self):
-        """Of all texts with one word dropped or doubled most are told the very line, and one in a hundred a line beside it."""
+        """Of all texts with one word dropped or doubled most are told the very line, and one in a hundred a line near it."""
         told = collections.Counter()
         for text in texts():
             cases = list(one_word_off(text))
