@@ -9,15 +9,16 @@ use lib.ListN.{length}
 use Rattle.words.specs.Columns.{column}
 use Rattle.semantics.specs.Words.{Words, word}
 use Rattle.semantics.specs.Table.{nodes, count, known-type, known-target, constant, read, size, kind-of, type-rule, node-kind, node-a, node-b, node-type}
+use Rattle.semantics.specs.Syntax.{Value, Field}
 use Rattle.semantics.proofs.Passed.{require-passes}
 use Rattle.semantics.proofs.Trees.{Node-ok, node-ok, types-at}
-use Rattle.semantics.proofs.Steps.{place-good, value-good}
-use Rattle.lookups.specs.Lists.{part, Lists, Field-ready, Known-ready}
+use Rattle.semantics.proofs.Steps.{Place-ok, field-ok, place-good, value-good}
+use Rattle.lookups.specs.Lists.{part, Lists, Field-node, Field-ready, Known-ready}
 use Rattle.steps.specs.Answers.{slots, failed}
 use Rattle.evaluator.specs.Result.{Node-ready, Place-ready, Value-ready, Place-answered, Value-answered}
 use Rattle.steps.proofs.Finish.{touched}
 use Rattle.lookups.proofs.Lookups.{item-inside, note-inside, item-is, noted-type}
-use Rattle.evaluator.proofs.Nodes.{place-kind, value-kind, kind-number, Value-child, Place-child, variable-node, deref-node, field-node, sum-node, read-node, address-node, cast-node, malloc-node}
+use Rattle.evaluator.proofs.Nodes.{place-kind, value-kind, kind-number, count-of, Value-child, Place-child, variable-node, deref-node, field-node, sum-node, read-node, address-node, cast-node, malloc-node}
 use Rattle.evaluator.proofs.Outcomes.{length-after, worked-out}
 
 -- ---- a node's words, as the lists have them
@@ -97,6 +98,16 @@ module _ {l m : List Words} {n : ℕ} {s : Words} (h : Place-ready l m n s) {k :
   pub field-ready : k ≡ 3 → Field-ready l n
   unfolding kind-of
   field-ready q = record { table = h .table; is-field = record { lists = h .lists; node = h .node; kind = kind-is (h .lists) (h .node) e q } }
+
+  -- A field has at least one word.
+  pub field-asks : {z : ℕ} → k ≡ 3 → ((t : Words) → Field-node t l n → z ≡ count-of t n) → 1 ≤ z
+  unfolding kind-of field-ready
+  field-asks q hz =
+      let nd = field-node (h .table) n (kind-is (h .lists) (h .node) e q) (h .tree) in
+      rw (hz (h .table) (field-ready q .is-field)) (some (rw (nd .1) at (h .tree)))
+    where
+      some : {vars o words : ℕ} {v : Value} → Place-ok vars (Field n o words v) → 1 ≤ words
+      some (field-ok less v) = less
 
 module _ {l m : List Words} {n : ℕ} {s : Words} (h : Value-ready l m n s) {k : ℕ} (e : k ≡ part l n 0) where
   is : {x : ℕ} → k ≡ x → node-kind (h .table) n ≡ kind-of x

@@ -1,4 +1,4 @@
--- Where an event stands in a log, and that the blocks of a log lie apart.
+-- Where an event stands in a log, what holds of all checks of a log, and that its blocks lie apart.
 use Prim.Native.Nat.{ℕ, _+_, _≤_, _<_}
 use mathlib.Core.Path.{_≡_, sym, _∙_}
 use mathlib.Core.Logic.{_⊎_, inl, inr, ⊎-elim}
@@ -55,6 +55,35 @@ stored-no-block w a s n q = stored-allocated q
 
 pub tested-no-block : (x : Bounds-check) → No-block (tested x)
 tested-no-block x s n q = tested-allocated q
+
+-- ---- the checks of a log, event by event
+
+-- P holds of every check of the log.
+abbrev pub All-checks : (Bounds-check → Type 0) → List Event → Type 0
+All-checks P log = (x : Bounds-check) → List·Memᴰ (tested x) log → P x
+
+pub no-checks : (P : Bounds-check → Type 0) → All-checks P []
+no-checks P x h = absurd (List·Memᴰ·not-nil h)
+
+-- The check asks for at least one word.
+abbrev pub Asks : Bounds-check → Type 0
+Asks x = 1 ≤ x .words
+
+module _ {P : Bounds-check → Type 0} where
+  one-more : {e : Event} {log : List Event} → ((x : Bounds-check) → tested x ≡ e → P x) → All-checks P log → All-checks P (e ∷ log)
+  one-more new before x h = ⊎-elim {C = P x} (new x) (before x) (List·Memᴰ·cases-cons h)
+
+  pub one-check : {x : Bounds-check} {log : List Event} → P x → All-checks P log → All-checks P (tested x ∷ log)
+  one-check {x} h = one-more (λ y q. let same : y ≡ x = cc in rw same h)
+
+  pub one-load : {w : ℕ} {a : Access} {log : List Event} → All-checks P log → All-checks P (loaded w a ∷ log)
+  one-load = one-more (λ y q. absurd (tested-loaded q))
+
+  pub one-store : {w : ℕ} {a : Access} {log : List Event} → All-checks P log → All-checks P (stored w a ∷ log)
+  one-store = one-more (λ y q. absurd (stored-tested (sym q)))
+
+  pub one-block : {a n : ℕ} {log : List Event} → All-checks P log → All-checks P (allocated a n ∷ log)
+  one-block = one-more (λ y q. absurd (tested-allocated q))
 
 -- ---- what is allowed, event by event
 

@@ -1,5 +1,5 @@
 -- Each table of examples computes to what it says: those that document 01 prints and that requests 1 and 2 ask for (specs/Examples.antt), and
--- those that hold each sentence (specs/RefusalExamples.antt, CallExamples.antt, RunExamples.antt, TreeExamples.antt, ExplainExamples.antt).
+-- those that hold each sentence (specs/RefusalExamples.antt, CallExamples.antt, RunExamples.antt, TreeExamples.antt, ExplainExamples.antt, LeftExamples.antt).
 use mathlib.Core.Path.{_≡_, refl}
 use mathlib.Core.List.{[], _∷_, map}
 use Rattle.semantics.specs.Words.{zeroed, sum-below, any-below, seen-before, least-below, grow}
@@ -7,7 +7,7 @@ use Rattle.semantics.specs.Table.{count-place, count, item-place, item, 
 use Rattle.semantics.specs.Registers.{register-place, register-start}
 use Rattle.semantics.specs.Check.{_or-else_, require, each, section-fault, words-over, record-fault, field-sum-fault, field-fault, pointer-fault, variable-fault, is-child, deeper, node-fault, command-fault, uses, use-fault, check, lengths-fit, input-fits, input-fault, arguments-fault, extent-fault, names-pointer, name-fault, room-fault, registers-fault, call-fault}
 use Rattle.semantics.specs.Syntax.{step-of, tree-rule, trees-below, tree-of, place-of, value-of}
-use Rattle.semantics.specs.Rules.{in-bounds, checked, deref-step, field-step, touchable, read-step, malloc-step, place-at, assign-step, assign}
+use Rattle.semantics.specs.Rules.{words-left, enough-left, checked, deref-step, field-step, touchable, read-step, malloc-step, place-at, assign-step, assign}
 use Rattle.semantics.specs.Run.{cleared, with-register, registers-below, begin, command, commands-below, run, call}
 use Rattle.semantics.specs.Explain.{without-bounds, reason-of, block-start, first-word, newest-cause, explain}
 use Rattle.semantics.specs.ExampleTables.{judged, answered, Example, observed}
@@ -16,11 +16,12 @@ use Rattle.semantics.specs.RefusalExamples.{sections, declarations, oper
 use Rattle.semantics.specs.CallExamples.{arguments, register-lists, unequal-lists}
 use Rattle.semantics.specs.RunExamples.{memory-runs, order-runs, place-runs, value-runs, malloc-runs, touched, touches}
 use Rattle.semantics.specs.ExplainExamples.{Telling, tell, reasons, nodes-told, first-words, explained, whole-calls, logged, logs, reasoned, bare-checks, some-words, starts, at-ending, endings, at-endings}
+use Rattle.semantics.specs.LeftExamples.{counted, numbers-left, left-runs}
 use Rattle.semantics.specs.TreeExamples.{every-kind, roots, trees, small, worked, values, registered, wild, wild-runs, measured, depths}
 
 -- To unfold this is to unfold every definition that a call comes down to.
 computed : Example → Example
-unfolding observed zeroed sum-below any-below seen-before least-below grow count-place count item-place item is-pointer known-type known-target target points-to-type points-to-record pointed-record entry-below field-total first-field field-type field-count field-offset size-of kind-of node-kind children type-rule types-below node-type _or-else_ require each section-fault words-over record-fault field-sum-fault field-fault pointer-fault variable-fault is-child deeper node-fault command-fault uses use-fault check lengths-fit input-fits input-fault arguments-fault register-place register-start extent-fault names-pointer name-fault room-fault registers-fault call-fault step-of tree-rule trees-below tree-of place-of value-of in-bounds checked deref-step field-step touchable read-step malloc-step place-at assign-step assign cleared registers-below begin command commands-below run call
+unfolding observed zeroed sum-below any-below seen-before least-below grow count-place count item-place item is-pointer known-type known-target target points-to-type points-to-record pointed-record entry-below field-total first-field field-type field-count field-offset size-of kind-of node-kind children type-rule types-below node-type _or-else_ require each section-fault words-over record-fault field-sum-fault field-fault pointer-fault variable-fault is-child deeper node-fault command-fault uses use-fault check lengths-fit input-fits input-fault arguments-fault register-place register-start extent-fault names-pointer name-fault room-fault registers-fault call-fault step-of tree-rule trees-below tree-of place-of value-of words-left enough-left checked deref-step field-step touchable read-step malloc-step place-at assign-step assign cleared registers-below begin command commands-below run call
 computed x = observed x
 
 -- ---- Document 01's own, registers, and steps along records
@@ -130,6 +131,16 @@ wild-runs-end-so = refl
 pub depths-are-measured-so : map measured depths ≡ depths
 unfolding computed measured depths
 depths-are-measured-so = refl
+
+-- ---- How many words are left
+
+pub words-are-counted-so : map counted numbers-left ≡ numbers-left
+unfolding computed counted numbers-left
+words-are-counted-so = refl
+
+pub left-runs-end-so : map observed left-runs ≡ left-runs
+unfolding computed left-runs
+left-runs-end-so = refl
 
 -- ---- Explanations
 

@@ -17,14 +17,14 @@ use Rattle.semantics.specs.Run.{cleared, begin, command, Ending, done, a
 use Rattle.semantics.specs.Safety.{Region, variable, block, Sound, absent, held}
 use Rattle.semantics.specs.Explain.{without-bounds, reason-of, block-start, first-word, Cause, because, cause-of, newest-cause, explanation, explain, Passed, First-not-passed, Applies, no-bounds, before-base, past-end, Lowest, Starts-at, nowhere, somewhere, Explains, aborted, all-done, no-room-left, Truly-explained}
 use Rattle.semantics.proofs.Tests.{and-true, and-both}
-use Rattle.semantics.proofs.Blocks.{Stacked, stacked-inside, region-used, blocks-apart}
+use Rattle.semantics.proofs.Blocks.{All-checks, Asks, Stacked, stacked-inside, region-used, blocks-apart}
 use Rattle.semantics.proofs.Fails.{ok-not, no-room-not}
 use Rattle.semantics.proofs.Invariant.{Good, good-ok, good-fails, good-no-room}
 use Rattle.semantics.proofs.Steps.{Any, assign-good}
 use Rattle.semantics.proofs.Trees.{command-ok}
 use Rattle.semantics.proofs.Registers.{registers-unused}
 use Rattle.semantics.proofs.Starts.{block-start-of, registers-start}
-use Rattle.semantics.proofs.Checks.{Ends-tested, done-tested, abort-tested, no-room-tested, stuck-tested, command-tested, stopped-by, commands-tested, begin-passed}
+use Rattle.semantics.proofs.Checks.{all-passed, Ends-tested, done-tested, abort-tested, no-room-tested, stuck-tested, command-tested, stopped-by, commands-tested, begin-passed}
 use Rattle.semantics.proofs.Safety.{Begun, begun, begin-inv, Running, commands-ok, begun-runs}
 
 -- ---- the reason
@@ -153,12 +153,16 @@ explanations-are-true t inputs registers values bases ends e =
     whole f =
         record { earlier = f .earlier; newest = f .newest; not-passed = f .not-passed; before = f .before; done-before = f .done-before; failed = f .failed }
 
+    asks : All-checks Asks (r .state .log)
+    asks = running .inv .asks
+
     go : (d : Ending) → r .ending ≡ d → Ends-tested t s (count t commands) (r .state) d → Explains t s r d (explanation (count t variables) d (r .state .log))
-    go done q (done-tested p) = all-done p
-    go (abort c) q (abort-tested {x = x} less first) =
+    go done q (done-tested p) = all-done (all-passed asks p)
+    go (abort c) q (abort-tested {x = x} less stopped) =
+        let first = whole (stopped asks) in
         rw (abort-told (count t variables) c (first .newest))
-        (aborted (whole first) (lowest-reason x (first .not-passed)) (first-starts (running .inv .blocks) x (stopped-sound b less (whole first))))
-    go (out-of-memory c) q (no-room-tested p) = no-room-left p
+        (aborted first (lowest-reason x (first .not-passed)) (first-starts (running .inv .blocks) x (stopped-sound b less first)))
+    go (out-of-memory c) q (no-room-tested p) = no-room-left (all-passed asks p)
     go (stuck c) q stuck-tested = absurd (running .has-rules c q)
 
 -- ---- of the words that are told

@@ -70,7 +70,7 @@ own-check : (n : ℕ) (v : Value) (offset k : ℕ) (s : State) (p : Datum) (s₁
 own-check n v offset k s p s₁ w l {x} {s′} at child e = go (check-made n p w k l s₁) e
   where
     go : {o : Outcome Location} → Check-made n p w k l s₁ o → o ≡ fails x s′ → Own-check n v offset k s x s′
-    go (check-passed from upto) q = absurd (ok-not q)
+    go (check-passed inside) q = absurd (ok-not q)
     go (check-missed miss) q =
         let same : check-of n p w k ≡ x = cc in
         let state : noted (tested (check-of n p w k)) s₁ ≡ s′ = cc in

@@ -8,7 +8,7 @@ use Rattle.semantics.specs.Words.{word}
 use Rattle.semantics.specs.Rules.{Datum, Access, Location, Bounds-check, Event, allocated, State, Outcome, ok, fails, no-room, bind}
 use Rattle.semantics.specs.Safety.{Region, variable, block, Held, Permitted, by-name, by-pointer, Allowed, Sound, absent, held}
 use Rattle.semantics.specs.Log.{Unwritten, Same-word}
-use Rattle.semantics.proofs.Blocks.{Stacked, region-used}
+use Rattle.semantics.proofs.Blocks.{All-checks, Asks, Stacked, region-used}
 
 pub record Inv (vars len : ℕ) (s : State) : Type 0 where
   pub values-length : length (s .values) ≡ len
@@ -19,6 +19,7 @@ pub record Inv (vars len : ℕ) (s : State) : Type 0 where
   pub blocks : Stacked vars (s .log) (s .unused)
   pub sound : (w : ℕ) → Sound vars (s .log) (word (s .bases) w) (word (s .ends) w)
   pub allowed : Allowed vars (s .log)
+  pub asks : All-checks Asks (s .log)
   pub clear : (w : ℕ) → s .unused ≤ w → (word (s .values) w ≡ 0) × (word (s .bases) w ≡ 0) × (word (s .ends) w ≡ 0)
 
 -- Every event of one log is one of another: what was obtained earlier stays so.

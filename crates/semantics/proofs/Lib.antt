@@ -20,3 +20,4 @@ pub mod Depth
 pub mod Starts
 pub mod Causes
 pub mod Explain
+pub mod Before

@@ -59,14 +59,13 @@ both (no-rule s) f e = absurd (no-rule-not e)
 record Checked (n : ℕ) (p : Datum) (w k : ℕ) (l : Location) (s : State) (l′ : Location) (s′ : State) : Type 0 where
   place : l ≡ l′
   state : noted (tested (check-of n p w k)) s ≡ s′
-  from : p .base ≤ w
-  upto : w + k ≤ p .end
+  inside : (i : ℕ) → i < k → (p .base ≤ w + i) × (w + i + 1 ≤ p .end)
 
 checked-ok : (n : ℕ) (p : Datum) (w k : ℕ) (l : Location) (s : State) {l′ : Location} {s′ : State} → checked n p w k l s ≡ ok l′ s′ → Checked n p w k l s l′ s′
 checked-ok n p w k l s {l′} {s′} e = go (check-made n p w k l s) e
   where
     go : {o : Outcome Location} → Check-made n p w k l s o → o ≡ ok l′ s′ → Checked n p w k l s l′ s′
-    go (check-passed from upto) q = record { place = same-result q; state = same-state q; from = from; upto = upto }
+    go (check-passed inside) q = record { place = same-result q; state = same-state q; inside = λ i less. omega (arith, inside (omega arith)) }
     go (check-missed miss) q = absurd (fails-not q)
 
 pub one-event : (e : Event) (s : State) → Noted e s (noted e s)
@@ -77,7 +76,7 @@ unfolding deref-step
 deref-comes {n} v s b =
     let c = checked-ok n (b .a) (b .a .value) 1 _ (b .s₁) (b .second) in
     rw (← (c .place), ← (c .state))
-    (deref-place (record { pointer = b .a; s₁ = b .s₁; child = b .first; access = refl; at = omega arith; from = c .from; upto = c .upto; event = one-event _ (b .s₁) }) refl refl)
+    (deref-place (record { pointer = b .a; s₁ = b .s₁; child = b .first; access = refl; at = omega arith; inside = c .inside; event = one-event _ (b .s₁) }) refl refl)
 
 field-comes : {n offset k : ℕ} (v : Value) (s : State) {l : Location} {s′ : State} → Both (value-at v s) (field-step n offset k) l s′
     → Comes-by s l s′ (Field n offset k v)
@@ -85,7 +84,7 @@ unfolding field-step
 field-comes {n} {offset} {k} v s b =
     let c = checked-ok n (b .a) (b .a .value + offset) k _ (b .s₁) (b .second) in
     rw (← (c .place), ← (c .state))
-    (field-place (record { pointer = b .a; s₁ = b .s₁; child = b .first; access = refl; at = refl; from = c .from; upto = c .upto; event = one-event _ (b .s₁) }) refl refl)
+    (field-place (record { pointer = b .a; s₁ = b .s₁; child = b .first; access = refl; at = refl; inside = c .inside; event = one-event _ (b .s₁) }) refl refl)
 
 -- Every place is come by as its tree says: a variable is named, and at a deref or a field the pointer logged is the child's value.
 pub places-are-come-by : (p : Place) (s : State) (l : Location) (s′ : State) → place-at p s ≡ ok l s′ → Comes-by s l s′ p

@@ -14,7 +14,7 @@ use Rattle.semantics.specs.Words.{Words, word, zeroed, if_then_else_}
 use Rattle.semantics.specs.Registers.{register-count, register-variable, register-length, register-words}
 use Rattle.semantics.specs.Check.{command-place, command-value}
 use Rattle.semantics.specs.Syntax.{Place, Variable, Deref, Field, NoPlace, Value, Number, Sum, Read, Address, Cast, Malloc, NoValue, place-of, value-of}
-use Rattle.semantics.specs.Rules.{Datum, unbounded, block-pointer, Access, Location, variable-location, Bounds-check, Event, loaded, stored, State, noted, Outcome, ok, fails, no-room, no-rule, bind, in-bounds, checked, deref-step, field-step, touchable, contents, read-step, address-step, sum-step, cast-step, with-block, malloc-step, place-at, value-at, with-datum, assign-step, assign}
+use Rattle.semantics.specs.Rules.{Datum, unbounded, block-pointer, Access, Location, variable-location, Bounds-check, Event, loaded, stored, State, noted, Outcome, ok, fails, no-room, no-rule, bind, enough-left, checked, deref-step, field-step, touchable, contents, read-step, address-step, sum-step, cast-step, with-block, malloc-step, place-at, value-at, with-datum, assign-step, assign}
 use Rattle.semantics.specs.Run.{cleared, with-register, registers-below, begin, command, Ending, done, abort, out-of-memory, stuck, Run, after-command, then-command, commands-below}
 use Rattle.semantics.specs.Log.{Same-word, Unwritten, Alike, Ends-alike}
 use Rattle.semantics.proofs.Blocks.{stored-loaded, stored-allocated, stored-tested}
@@ -185,7 +185,7 @@ module _ (s₀ s₀′ : State) (final : List Event) (read : (w : ℕ) (a : Acce
   checked-steady : (n : ℕ) (p : Datum) (w k : ℕ) (l : Location) → Steady (checked n p w k l)
   unfolding checked
   checked-steady n p w k l =
-      choice (λ s. in-bounds p w k) (λ s s′ t. refl) (after-event _ (λ v a. stored-tested) (given l)) (after-event _ (λ v a. stored-tested) (failing _))
+      choice (λ s. enough-left p w k) (λ s s′ t. refl) (after-event _ (λ v a. stored-tested) (given l)) (after-event _ (λ v a. stored-tested) (failing _))
 
   deref-steady : (n : ℕ) (p : Datum) → Steady (deref-step n p)
   unfolding deref-step

@@ -17,7 +17,7 @@ use Rattle.semantics.specs.Safety.{absent, Spatially-safe}
 use Rattle.semantics.specs.Log.{Log-believable}
 use Rattle.semantics.proofs.Tests.{and-true}
 use Rattle.semantics.proofs.Passed.{or-else-passes, require-passes, Passed, passed}
-use Rattle.semantics.proofs.Blocks.{none, none-allowed, blocks-apart}
+use Rattle.semantics.proofs.Blocks.{none, Asks, no-checks, none-allowed, blocks-apart}
 use Rattle.semantics.proofs.Invariant.{Inv, Later, now, later-trans, Good, good-ok, good-fails, good-no-room}
 use Rattle.semantics.proofs.Steps.{Any, assign-good}
 use Rattle.semantics.proofs.Registers.{Listed, listed, sets-other, registers-inv}
@@ -81,6 +81,7 @@ cleared-inv {t} {inputs} {len} b =
       blocks = none;
       sound = λ w. absent (word-of-zeros len w) (word-of-zeros len w);
       allowed = none-allowed;
+      asks = no-checks Asks;
       clear = λ w h. (
         sets-other (replicate len 0) 1 inputs w (omega (arith, b .inputs-length)) ∙ word-of-zeros len w,
         word-of-zeros len w,

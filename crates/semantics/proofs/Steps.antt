@@ -16,7 +16,7 @@ use Rattle.semantics.specs.Safety.{variable, block, Held, Permitted, by-
 use Rattle.semantics.specs.Log.{Unwritten, Same-word}
 use Rattle.semantics.proofs.Tests.{and-both, Check-made, check-passed, check-missed, check-made}
 use Rattle.semantics.proofs.Lists.{zeroed-clear}
-use Rattle.semantics.proofs.Blocks.{No-block, loaded-no-block, stored-no-block, tested-no-block, beside, alloc, load-allowed, store-allowed, alloc-allowed, test-allowed}
+use Rattle.semantics.proofs.Blocks.{No-block, loaded-no-block, stored-no-block, tested-no-block, All-checks, Asks, one-check, one-load, one-store, one-block, beside, alloc, load-allowed, store-allowed, alloc-allowed, test-allowed}
 use Rattle.semantics.proofs.Places.{log-kept}
 use Rattle.semantics.proofs.Invariant.{Inv, Within, Later, now, sound-later, permitted-used, Datum-ok, Location-ok, location-later, Good, good-ok, good-fails, good-no-room, bind-good}
 
@@ -34,8 +34,8 @@ tail e x h = List·Memᴰ·tail h
 noted-later : {s : State} (e : Event) → Later s (noted e s)
 noted-later e = record { more = tail e; kept = λ w h. record { value = refl; base = refl; end = refl } }
 
-no-block : {vars len : ℕ} {s : State} (e : Event) → No-block e → Inv vars len s → Allowed vars (e ∷ s .log) → Inv vars len (noted e s)
-no-block e apart inv allowed =
+no-block : {vars len : ℕ} {s : State} (e : Event) → No-block e → Inv vars len s → Allowed vars (e ∷ s .log) → All-checks Asks (e ∷ s .log) → Inv vars len (noted e s)
+no-block e apart inv allowed asks =
     record {
       values-length = inv .values-length;
       bases-length = inv .bases-length;
@@ -45,6 +45,7 @@ no-block e apart inv allowed =
       blocks = beside apart (inv .blocks);
       sound = λ w. sound-later (tail e) (inv .sound w);
       allowed = allowed;
+      asks = asks;
       clear = inv .clear;
     }
 
@@ -69,6 +70,7 @@ block-inv {vars} {len} {s} n some inv fits =
       blocks = alloc some (inv .blocks);
       sound = λ w. sound-later (tail (allocated (s .unused) n)) (inv .sound w);
       allowed = alloc-allowed (inv .allowed);
+      asks = one-block (inv .asks);
       clear = λ w h. inv .clear w (omega arith);
     })
 
@@ -89,6 +91,7 @@ pointer-inv {vars} {len} {s} w x used inv good =
       blocks = inv .blocks;
       sound = λ v. sound v (ℕ-discrete v w);
       allowed = inv .allowed;
+      asks = inv .asks;
       clear = λ v h. (
         other (s .values) (x .value) v h ∙ inv .clear v h .0,
         other (s .bases) (x .base) v h ∙ inv .clear v h .1,
@@ -118,6 +121,7 @@ values-inv vs same above inv =
       blocks = inv .blocks;
       sound = inv .sound;
       allowed = inv .allowed;
+      asks = inv .asks;
       clear = λ w h. (above w h ∙ inv .clear w h .0, inv .clear w h .1, inv .clear w h .2);
     }
 
@@ -149,22 +153,24 @@ sound-held : {vars b e : ℕ} {l : List Event} → Sound vars l b e → 0 < e �
 sound-held (absent p q) h = absurd (omega arith)
 sound-held (held x) h = x
 
-checked-good : {vars len : ℕ} {s : State} (n : ℕ) (p : Datum) (w k : ℕ) (l : Location) → Inv vars len s → Datum-ok vars p s
+checked-good : {vars len : ℕ} {s : State} (n : ℕ) (p : Datum) (w k : ℕ) (l : Location) → 1 ≤ k → Inv vars len s → Datum-ok vars p s
     → (p .base ≤ w → w + k ≤ p .end → Location-ok vars l s) → Good vars len s (Location-ok vars) (checked n p w k l s)
-checked-good {vars} {len} {s} n p w k l inv good found = go (check-made n p w k l s)
+checked-good {vars} {len} {s} n p w k l some inv good found = go (check-made n p w k l s)
   where
     e : Event
     e = tested (check-of n p w k)
 
+    logged : Inv vars len (noted e s)
+    logged = no-block e (tested-no-block _) inv (test-allowed (inv .allowed)) (one-check some (inv .asks))
+
     go : {o : Outcome Location} → Check-made n p w k l s o → Good vars len s (Location-ok vars) o
-    go (check-passed from upto) =
-        good-ok (no-block e (tested-no-block _) inv (test-allowed (inv .allowed))) (noted-later e) (location-later (tail e) (found from upto))
-    go (check-missed miss) = good-fails (no-block e (tested-no-block _) inv (test-allowed (inv .allowed))) (noted-later e) (sound-later (tail e) (good .sound))
+    go (check-passed inside) = good-ok logged (noted-later e) (location-later (tail e) (found (inside some .0) (inside some .1)))
+    go (check-missed miss) = good-fails logged (noted-later e) (sound-later (tail e) (good .sound))
 
 deref-good : {vars len : ℕ} (n : ℕ) (p : Datum) (s : State) → Inv vars len s → Datum-ok vars p s → Good vars len s (Location-ok vars) (deref-step n p s)
 unfolding deref-step
 deref-good n p s inv good =
-    checked-good n p (p .value) 1 _ inv good
+    checked-good n p (p .value) 1 _ (omega arith) inv good
     (λ from upto.
     let h = sound-held (good .sound) (omega arith) in
     record { permitted = by-pointer from upto h; bounds = h })
@@ -173,7 +179,7 @@ field-good : {vars len : ℕ} (n offset k : ℕ) (p : Datum) (s : State) → 0 <
     → Good vars len s (Location-ok vars) (field-step n offset k p s)
 unfolding field-step
 field-good n offset k p s some inv good =
-    checked-good n p (p .value + offset) k _ inv good
+    checked-good n p (p .value + offset) k _ some inv good
     (λ from upto.
     let h = sound-held (good .sound) (omega arith) in
     record {
@@ -188,7 +194,7 @@ read-good : {vars len : ℕ} (pointer : Bool) (l : Location) (s : State) → Inv
 unfolding read-step
 read-good {vars} {len} pointer l s inv good =
     rw (touchable-true inv (good .permitted))
-    (good-ok (no-block (loaded (l .at) (l .access)) (loaded-no-block (l .at) (l .access)) inv (load-allowed (good .permitted) (inv .allowed))) (noted-later (loaded (l .at) (l .access))) (kept pointer))
+    (good-ok (no-block (loaded (l .at) (l .access)) (loaded-no-block (l .at) (l .access)) inv (load-allowed (good .permitted) (inv .allowed)) (one-load (inv .asks))) (noted-later (loaded (l .at) (l .access))) (kept pointer))
   where
     kept : (b : Bool) → Datum-ok vars (contents b s (l .at)) (noted (loaded (l .at) (l .access)) s)
     kept true = record { sound = sound-later (tail (loaded (l .at) (l .access))) (inv .sound (l .at)) }
@@ -273,7 +279,7 @@ assign-step-good {vars} pointer l x s inv place value =
     rw (touchable-true inv (place .permitted))
     (good-ok
     (no-block (stored (l .at) (l .access)) (stored-no-block (l .at) (l .access)) (datum-inv pointer (l .at) x (used .1) inv value)
-    (rw e (store-allowed (place .permitted) (inv .allowed))))
+    (rw e (store-allowed (place .permitted) (inv .allowed))) (rw e (one-store (inv .asks))))
     (stored-later pointer l x)
     (record {}))
 

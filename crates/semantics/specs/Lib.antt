@@ -17,3 +17,4 @@ pub mod CallExamples
 pub mod RunExamples
 pub mod TreeExamples
 pub mod ExplainExamples
+pub mod LeftExamples

@@ -68,16 +68,15 @@ pub record Noted (e : Event) (s s′ : State) : Type 0 where
   pub log : s′ .log ≡ e ∷ s .log
 
 -- A place of node n that a pointer was followed to: "its child a is the pointer followed, and the bounds are those that this value had when the
--- place was worked out." It is `offset` words past the pointer's value, and the `words` words from there on lie within the pointer's bounds: that
--- check is the one event of the place's own, after those of the child.
+-- place was worked out." It is `offset` words past the pointer's value, and each of the `words` words from there on lies within the pointer's bounds:
+-- that check is the one event of the place's own, after those of the child. "Word w lies within [b, e) when b ≤ w and w + 1 ≤ e."
 pub record Followed-to (n : ℕ) (v : Value) (offset words : ℕ) (s : State) (l : Location) (s′ : State) : Type 0 where
   pub pointer : Datum
   pub s₁ : State
   pub child : value-at v s ≡ ok pointer s₁
   pub access : l .access ≡ followed pointer
   pub at : l .at ≡ pointer .value + offset
-  pub from : pointer .base ≤ l .at
-  pub upto : l .at + words ≤ pointer .end
+  pub inside : (i : ℕ) → i < words → (pointer .base ≤ l .at + i) × (l .at + i + 1 ≤ pointer .end)
   pub event : Noted (tested (check-of n pointer (l .at) words)) s₁ s′
 
 -- How a tree comes by its place l: worked out from state s, with state s′ afterwards.

@@ -1,5 +1,5 @@
 -- Document 01, "Steps", over trees. All sums are exact but for that of a Sum.
-use Prim.Native.Nat.{ℕ, _+_, _*_, _%_}
+use Prim.Native.Nat.{ℕ, _+_, _*_, _-_, _%_}
 use mathlib.Core.Bool.{Bool, true, false, _&&_}
 use mathlib.Core.List.{List, _∷_}
 use lib.ListN.{length, set}
@@ -77,9 +77,15 @@ bind (no-rule s) f = no-rule s
 abbrev pub variable-location : ℕ → Location
 variable-location i = record { at = 1 + i; base = 1 + i; end = 1 + i + 1; access = named i }
 
--- Words [w, w + k) lie within the bounds of p.
-unfoldable pub in-bounds : Datum → ℕ → ℕ → Bool
-in-bounds p w k = leb (p .base) w && leb (w + k) (p .end)
+-- Request 5: "how many words, from a given place on, lie within the bounds: 0 if the place is outside them or there are none." The bounds are
+-- [b, e), the place is w.
+unfoldable pub words-left : (b e w : ℕ) → ℕ
+words-left b e w = if leb b w && ltb w e then e - w else 0
+
+-- "Follow and field then ask for at least their own number": by the pointer p, at least k words are left from w on. For k above 0 that is document
+-- 01's "b ≤ w and w + k ≤ e" (proofs/Before.antt).
+unfoldable pub enough-left : Datum → ℕ → ℕ → Bool
+enough-left p w k = leb k (words-left (p .base) (p .end) w)
 
 -- Node n wants k words from w on, by the pointer p.
 abbrev pub check-of : ℕ → Datum → ℕ → ℕ → Bounds-check
@@ -89,7 +95,7 @@ check-of n p w k = record { node = n; at = w; words = k; base = p .base; end = p
 unfoldable pub checked : ℕ → Datum → ℕ → ℕ → Location → State → Outcome Location
 checked n p w k l s =
     let x = check-of n p w k in
-    if in-bounds p w k then ok l (noted (tested x) s) else fails x (noted (tested x) s)
+    if enough-left p w k then ok l (noted (tested x) s) else fails x (noted (tested x) s)
 
 -- "Follow: a pointer v with bounds [b, e) passes when b ≤ v and v + 1 ≤ e. The place is v and keeps [b, e)"
 unfoldable pub deref-step : ℕ → Datum → State → Outcome Location

@@ -36,7 +36,7 @@ int** = 3
 abbrev pub record-1* : ℕ
 record-1* = 4
 
-abbrev record-0* : ℕ
+abbrev pub record-0* : ℕ
 record-0* = 5
 
 -- Variables: the int x in word 1, p in word 2, v in word 3, r in word 4. The first block begins at word 5.
@@ -71,7 +71,7 @@ left a b c d blocks = unbounded a ∷ b ∷ c ∷ d ∷ blocks
 abbrev pub none : Datum
 none = unbounded 0
 
-abbrev clear : ℕ → List Datum
+abbrev pub clear : ℕ → List Datum
 clear n = replicate n none
 
 -- (ty)malloc(n), *t, (ty)t + k
@@ -155,7 +155,7 @@ abbrev in-record : ℕ → Command → Answer → List Datum → Example
 in-record n c = run ((r := malloc-as record-1* n) ∷ c ∷ [])
 
 -- v = (void*)&t
-abbrev shows : Term → Command
+abbrev pub shows : Term → Command
 shows t = v := Cast (Address t) void*
 
 unfoldable pub place-runs : List Example

@@ -2,42 +2,29 @@
 use Prim.Native.Nat.{ℕ, _+_, _*_, _%_, _≤_, _<_, _^_}
 use native.Mathlib.Nat.{lt-of-le-of-lt, le-of-lt, mul-le-mul-left, mul-lt-mul-of-pos-right}
 use mathlib.Core.Bool.{Bool, true, false}
-use mathlib.Core.Path.{_≡_, refl, sym, ap, subst, _∙_}
+use mathlib.Core.Path.{_≡_, refl, sym, subst, _∙_}
 use mathlib.Core.Logic.{inl, inr}
 use mathlib.Core.List.{List, [], _∷_}
 use native.Mathlib.Omega.{arith}
 use borrow.Author.Tests.{le-leb, lt-leb, eq-eqb, ne-eqb, lt-ltb}
-use lib.Dec.{leb}
 use lib.ListN.{length}
 use Rattle.words.specs.Columns.{column}
 use Rattle.semantics.specs.Words.{Words, word}
 use Rattle.semantics.specs.Table.{is-pointer}
-use Rattle.semantics.specs.Rules.{Datum, unbounded, Location, variable-location, Event, allocated, tested, State, Outcome, ok, bind, in-bounds, checked, deref-step, field-step, touchable, contents, read-step, sum-step, cast-step, malloc-step}
+use Rattle.semantics.specs.Rules.{Datum, unbounded, Location, variable-location, Event, allocated, tested, State, Outcome, ok, bind, words-left, enough-left, checked, deref-step, field-step, touchable, contents, read-step, sum-step, cast-step, malloc-step}
 use Rattle.semantics.specs.Explain.{block-start}
-use Rattle.semantics.proofs.Tests.{in-bounds-true}
+use Rattle.semantics.proofs.Tests.{words-are-left, left-inside}
 use Rattle.semantics.proofs.Invariant.{Inv, permitted-used, Location-ok, Good, good-ok}
 use Rattle.semantics.proofs.Steps.{block-clear}
 use Rattle.semantics.proofs.Starts.{start-newest, start-older}
 use Rattle.steps.proofs.Slots.{Raised}
-use Rattle.steps.specs.Answers.{slots, base-slot, end-slot, unused-slot, limit-slot, found-slot, failed, full, state-of, check-in, Datum-is, Location-is, Watches, waiting, seen, Answers, answers-ok, answers-failed, answers-full, Kept, Given, Bounded, Told, Reserved, below-limit, past-limit, no-words, within-bounds, Finishes, Deref-finishes, Field-finishes, Sum-finishes, Load-finishes, Cast-finishes, Malloc-finishes}
+use Rattle.steps.specs.Answers.{slots, base-slot, end-slot, unused-slot, limit-slot, found-slot, failed, full, state-of, check-in, Datum-is, Location-is, Watches, waiting, seen, Answers, answers-ok, answers-failed, answers-full, Kept, Given, Bounded, Told, Reserved, below-limit, past-limit, no-words, Finishes, Deref-finishes, Field-finishes, Sum-finishes, Load-finishes, Cast-finishes, Malloc-finishes}
 
 -- ---- bounds
 
-pub within-yes : (b e w k : ℕ) {x y : ℕ} → x ≡ b → y ≡ e → x ≤ w → leb (w + k) y ≡ within-bounds b e w k
-unfolding in-bounds
-within-yes b e w k p q h = rw (le-leb b w (omega arith), q)
-
-pub within-no : (b e w k : ℕ) {x : ℕ} → x ≡ b → w < x → false ≡ within-bounds b e w k
-unfolding in-bounds
-within-no b e w k p h = rw (lt-leb b w (omega arith))
-
-pub inside : (b e w k : ℕ) {f : Bool} → f ≡ within-bounds b e w k → f ≡ true → (b ≤ w) × (w + k ≤ e)
-inside b e w k test passed = in-bounds-true (record { value = 0; base = b; end = e }) w k (sym test ∙ passed)
-
--- Only base and end of the pointer matter.
-bounds-of : (p : Datum) {b e : ℕ} → p .base ≡ b → p .end ≡ e → (w k : ℕ) → in-bounds p w k ≡ within-bounds b e w k
-unfolding in-bounds
-bounds-of p hb he w k = rw (hb, he)
+-- As many words as are asked for, and at least one, are left.
+pub inside : (b e w : ℕ) {n k : ℕ} → n ≡ words-left b e w → 1 ≤ k → k ≤ n → (b ≤ w) × (w + k ≤ e)
+inside b e w h some enough = left-inside (rw (sym h) at (words-are-left b e w)) some enough
 
 -- ---- results without a step
 
@@ -104,54 +91,58 @@ given-ok x log h small same watch = rw (← same) (answers-ok x log h small watc
 
 -- A check that is passed: its location.
 checked-yes : {w r : ℕ} {s s′ : Words} {m : List Words} (n : ℕ) (p : Datum) (at k : ℕ) (l : Location) (log : List Event)
-    → in-bounds p at k ≡ true → Location-is l r s′ → r < failed → Kept s s′ → Watches w (length (column m 0)) s log
+    → k ≤ words-left (p .base) (p .end) at → Location-is l r s′ → r < failed → Kept s s′ → Watches w (length (column m 0)) s log
     → Answers Location-is w m r s′ (checked n p at k l (state-of m (word s unused-slot) log))
-unfolding checked block-start
-checked-yes n p at k l log t h small kept watch = rw t (given-ok l _ h small (kept .unused) (watches-on kept refl watch))
+unfolding checked enough-left block-start
+checked-yes n p at k l log enough h small kept watch = rw (le-leb k _ enough) (given-ok l _ h small (kept .unused) (watches-on kept refl watch))
 
 -- A check that is not passed: the slots tell it.
 checked-no : {n at k w r : ℕ} {s s′ : Words} {m : List Words} (p : Datum) (l : Location) (log : List Event)
-    → in-bounds p at k ≡ false → r ≡ failed → Told n at k s s′ → p .base ≡ word s base-slot → p .end ≡ word s end-slot → Watches w (length (column m 0)) s log
+    → words-left (p .base) (p .end) at < k → r ≡ failed → Told n at k s s′ → p .base ≡ word s base-slot → p .end ≡ word s end-slot → Watches w (length (column m 0)) s log
     → Answers Location-is w m r s′ (checked n p at k l (state-of m (word s unused-slot) log))
-unfolding checked block-start
-checked-no {n} {at} {k} {s = s} {s′ = s′} {m = m} p l log t h t′ hb he watch =
-    rw (t, hb, he, ← t′ .told, ← t′ .kept .unused) (answers-failed (tested (check-in s′) ∷ log) h (watches-on (t′ .kept) refl watch))
+unfolding checked enough-left block-start
+checked-no {n} {at} {k} {s = s} {s′ = s′} {m = m} p l log short h t′ hb he watch =
+    rw (lt-leb k _ short, hb, he, ← t′ .told, ← t′ .kept .unused) (answers-failed (tested (check-in s′) ∷ log) h (watches-on (t′ .kept) refl watch))
 
 -- ---- places
 
-pub deref-yes : {v : ℕ} {m : List Words} {s : Words} {f : Bool} (n : ℕ) → length s ≡ slots → v < failed → f ≡ within-bounds (word s base-slot) (word s end-slot) v 1 → f ≡ true → Deref-finishes n m v s v s
+-- What is left by the pointer is what is left by the slots.
+same-left : {p : Datum} {v a b : ℕ} {s : Words} → Datum-is p v s → a ≡ b → words-left (p .base) (p .end) a ≡ words-left (word s base-slot) (word s end-slot) b
+same-left h e = rw (h .base, h .end, e)
+
+pub deref-yes : {v x : ℕ} {m : List Words} {s : Words} (n : ℕ) → length s ≡ slots → v < failed → x ≡ words-left (word s base-slot) (word s end-slot) v → 1 ≤ x → Deref-finishes n m v s v s
 unfolding deref-step
-deref-yes {v} {s = s} n room under test passed =
-    goes-on (deref-step n) room under
+deref-yes {s = s} n room under left enough =
+    goes-on {Child = Datum-is} (deref-step n) room under
     (λ vars len w p log h watch inv fine.
-    checked-yes n p (p .value) 1 _ log (ap (λ x. in-bounds p x 1) (h .value) ∙ bounds-of p (h .base) (h .end) v 1 ∙ sym test ∙ passed) (record { at = h .value; base = h .base; end = h .end }) under (all-kept s) watch)
+    checked-yes n p (p .value) 1 _ log (rw (same-left h (h .value), ← left) enough) (record { at = h .value; base = h .base; end = h .end }) under (all-kept s) watch)
 
-pub deref-no : {n v r : ℕ} {m : List Words} {s s′ : Words} {f : Bool} → v < failed → f ≡ within-bounds (word s base-slot) (word s end-slot) v 1 → f ≡ false → r ≡ failed → Told n v 1 s s′ → Deref-finishes n m v s r s′
+pub deref-no : {n v x r : ℕ} {m : List Words} {s s′ : Words} → v < failed → x ≡ words-left (word s base-slot) (word s end-slot) v → x < 1 → r ≡ failed → Told n v 1 s s′ → Deref-finishes n m v s r s′
 unfolding deref-step
-deref-no {n} {v} {s = s} {s′ = s′} under test passed h t =
-    goes-on (deref-step n) (t .room) under
+deref-no {n} {s = s} {s′ = s′} under left short h t =
+    goes-on {Child = Datum-is} (deref-step n) (t .room) under
     (λ vars len w p log i watch inv fine.
-    checked-no p _ log (ap (λ x. in-bounds p x 1) (i .value) ∙ bounds-of p (i .base) (i .end) v 1 ∙ sym test ∙ passed) h (subst (λ x. Told n x 1 s s′) (sym (i .value)) t) (i .base) (i .end) watch)
+    checked-no p _ log (rw (same-left i (i .value), ← left) short) h (subst (λ x. Told n x 1 s s′) (sym (i .value)) t) (i .base) (i .end) watch)
 
-module _ {v w x : ℕ} {m : List Words} {s s′ : Words} {f : Bool} (n o k : ℕ) (under : v < failed) (wo : w ≡ o) (xk : x ≡ k)
-    (test : f ≡ within-bounds (word s base-slot) (word s end-slot) (v + w) x) where
-  pub field-yes : {b e : ℕ} → f ≡ true → word s end-slot < failed → Bounded b e s s′ → b ≡ v + w → e ≡ v + w + x → Field-finishes n o k m v s (v + w) s′
+module _ {v w x y : ℕ} {m : List Words} {s s′ : Words} (n o k : ℕ) (under : v < failed) (wo : w ≡ o) (xk : x ≡ k)
+    (left : y ≡ words-left (word s base-slot) (word s end-slot) (v + w)) where
+  pub field-yes : {b e : ℕ} → 1 ≤ x → x ≤ y → word s end-slot < failed → Bounded b e s s′ → b ≡ v + w → e ≡ v + w + x → Field-finishes n o k m v s (v + w) s′
   unfolding field-step
-  field-yes passed small set hb he =
+  field-yes some enough small set hb he =
       goes-on (field-step n o k) (set .room) under
       (λ vars len word-watched p log h watch inv fine.
-      let fits = inside (word s base-slot) (word s end-slot) (v + w) x test passed in
+      let fits = inside (word s base-slot) (word s end-slot) (v + w) left some enough in
       let same : p .value + o ≡ v + w = omega (arith, h .value) in
-      checked-yes n p _ _ _ log (rw (same, ← xk) (bounds-of p (h .base) (h .end) (v + w) x ∙ sym test ∙ passed))
+      checked-yes n p _ _ _ log (rw (same-left h same, ← left, ← xk) enough)
       (record { at = same; base = omega (arith, same, set .base); end = omega (arith, same, set .end) }) (omega (arith, fits)) (set .kept) watch)
 
-  pub field-no : {r : ℕ} → f ≡ false → r ≡ failed → Told n (v + w) x s s′ → Field-finishes n o k m v s r s′
+  pub field-no : {r : ℕ} → y < x → r ≡ failed → Told n (v + w) x s s′ → Field-finishes n o k m v s r s′
   unfolding field-step
-  field-no passed h t =
+  field-no short h t =
       goes-on (field-step n o k) (t .room) under
       (λ vars len word-watched p log i watch inv fine.
       let same : p .value + o ≡ v + w = omega (arith, i .value) in
-      rw (same, ← xk) (checked-no p _ log (bounds-of p (i .base) (i .end) (v + w) x ∙ sym test ∙ passed) h t (i .base) (i .end) watch))
+      rw (same, ← xk) (checked-no p _ log (rw (same-left i refl, ← left) short) h t (i .base) (i .end) watch))
 
 -- ---- values
 

@@ -8,7 +8,7 @@ use lib.ListN.{length}
 use Rattle.words.specs.Columns.{column}
 use Rattle.semantics.specs.Words.{Words, word}
 use Rattle.semantics.specs.Table.{is-pointer}
-use Rattle.semantics.specs.Rules.{Datum, Location, Bounds-check, Event, State, Outcome, ok, fails, no-room, bind, in-bounds, deref-step, field-step, sum-step, read-step, cast-step, malloc-step}
+use Rattle.semantics.specs.Rules.{Datum, Location, Bounds-check, Event, State, Outcome, ok, fails, no-room, bind, deref-step, field-step, sum-step, read-step, cast-step, malloc-step}
 use Rattle.semantics.specs.Explain.{block-start}
 use Rattle.semantics.proofs.Invariant.{Inv, Datum-ok, Location-ok, Good}
 use Rattle.steps.specs.declared.FailedCheck.{FailedCheck}
@@ -126,10 +126,6 @@ pub record Given {A : Type 0} (Is : A → ℕ → Words → Type 0) (x : A) (s :
   pub is : Is x r s′
   pub small : r < failed
   pub kept : Kept s s′
-
--- Whether words [w, w + k) lie within [b, e).
-abbrev pub within-bounds : ℕ → ℕ → ℕ → ℕ → Bool
-within-bounds b e w k = in-bounds (record { value = 0; base = b; end = e }) w k
 
 -- s′ tells the check of node n for k words from w on, with base and end as in s.
 pub record Told (n w k : ℕ) (s s′ : Words) : Type 0 where

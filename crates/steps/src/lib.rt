@@ -3,13 +3,13 @@
 // worked out, U, where a check was not passed that check, and which block has a word that is watched for.
 ghost use mathlib.Core.Path.{_≡_};
 ghost use mathlib.Core.List.{List, [], map};
-ghost use Prim.Native.Nat.{_+_, _*_, _%_, _<_, _^_};
+ghost use Prim.Native.Nat.{_+_, _*_, _%_, _≤_, _<_, _^_};
 ghost use lib.ListN.{length};
 ghost use Rattle.words.specs.Columns.{column};
 ghost use Rattle.semantics.specs.Words.{Words, word};
 ghost use Rattle.semantics.specs.Table.{is-pointer};
-ghost use Rattle.semantics.specs.Rules.{Datum, unbounded, variable-location, contents};
-ghost use Rattle.steps.specs.Answers.{slots, failed, within-bounds, state-of, Datum-is, Location-is, Bounded, Given, Told, Tells, Reserved, Deref-finishes, Field-finishes, Sum-finishes, Load-finishes, Cast-finishes, Malloc-finishes};
+ghost use Rattle.semantics.specs.Rules.{Datum, unbounded, variable-location, words-left, contents};
+ghost use Rattle.steps.specs.Answers.{slots, failed, state-of, Datum-is, Location-is, Bounded, Given, Told, Tells, Reserved, Deref-finishes, Field-finishes, Sum-finishes, Load-finishes, Cast-finishes, Malloc-finishes};
 use words::long;
 use words::low;
 use words::narrow;
@@ -79,16 +79,18 @@ pub fn words(m: &mut Memory) -> usize
     m[VALUES].len()
 }
 
-// Whether k words from w on lie within [base, end). The sums are exact.
-fn within(base: u32, end: u32, w: u64, k: u64) -> bool
-    requires { ⌜ (w < 2 ^ 33) × (k < 2 ^ 32) ⌝ }
-    ensures { λ r. ⌜ (r ≡ within-bounds base end w k) × (end < 2 ^ 32) ⌝ }
+// How many words from w on lie within [base, end). Nothing is added, so nothing can wrap.
+fn words_left(base: u32, end: u32, w: u64) -> u64
+    ensures { λ r. ⌜ (r ≡ words-left base end w) × (end < 2 ^ 32) ⌝ }
 {
-    if long(base) <= w {
-        w + k <= long(end)
-    } else {
-        false
+    let b = long(base);
+    let e = long(end);
+    if b <= w {
+        if w < e {
+            return e - w;
+        }
     }
+    0
 }
 
 // Sets base and end.
@@ -177,15 +179,15 @@ pub fn deref(n: usize, v: u64, s: &mut Slots) -> u64
     if FAILED <= v {
         return v;
     }
-    if within(s[BASE], s[END], v, 1) {
+    if 1 <= words_left(s[BASE], s[END], v) {
         return v;
     }
     fail(n, v, 1, s)
 }
 
-// The place of a field: all its words are checked, and its bounds are its own words.
+// The place of a field: all its words are checked, at least one, and its bounds are its own words.
 pub fn field(n: usize, v: u64, offset: u32, count: u32, s: &mut Slots) -> u64
-    requires { ⌜ (n < 2 ^ 32) × (length (now s) ≡ slots) ⌝ }
+    requires { ⌜ (n < 2 ^ 32) × (1 ≤ count) × (length (now s) ≡ slots) ⌝ }
     ensures { λ r. ⌜ ((m : List Words) → Field-finishes n offset count m v (now (s .entry)) r (now (s .exit))) ⌝ }
 {
     if FAILED <= v {
@@ -193,7 +195,7 @@ pub fn field(n: usize, v: u64, offset: u32, count: u32, s: &mut Slots) -> u64
     }
     let w = v + long(offset);
     let k = long(count);
-    if within(s[BASE], s[END], w, k) {
+    if k <= words_left(s[BASE], s[END], w) {
         bound(low(w), low(w + k), s);
         return w;
     }

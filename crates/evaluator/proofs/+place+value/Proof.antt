@@ -41,7 +41,7 @@ use Rattle.words.proofs.long.Reads as long-reads
 use Rattle.evaluator.proofs.+place+value.{statement}
 use Rattle.evaluator.proofs.+place+value.Tie.{close}
 use Rattle.evaluator.proofs.Outcomes.{joined, kept-lists, kept-names}
-use Rattle.evaluator.proofs.Ready.{address-ready, cast-ready, constant-kind, deref-ready, drops-ready, falls-to, field-child, field-ready, inside-after, is-field, is-malloc, item-at, item-of, malloc-ready, note-of, read-ready, right-ready, room-after, size-ready, step-ready, sum-ready, variable-small}
+use Rattle.evaluator.proofs.Ready.{address-ready, cast-ready, constant-kind, deref-ready, drops-ready, falls-to, field-asks, field-child, field-ready, inside-after, is-field, is-malloc, item-at, item-of, malloc-ready, note-of, read-ready, right-ready, room-after, size-ready, step-ready, sum-ready, variable-small}
 use Rattle.evaluator.proofs.Evaluation.{address-answer, deref-answer, drop-answer, field-answer, keep-answer, malloc-answer, read-answer, size-answer, sum-answer, sum-constant-answer, sum-ended-answer, variable-answer}
 use Rattle.evaluator.proofs.Noted.{constant-answer, is-constant, malloc-constant-answer, reads-noted, reads-variable}
 
@@ -83,7 +83,7 @@ pub +place+value-spec : {M : Type 1} → statement M
     (λ c κs. falls-to (c .before .before .before .before .before .before .before .before .pre .0) (field-child (c .before .before .before .before .before .before .before .before .pre .1) (c .before .before .before .before .before .before .before .item .ensures) (is-field (c .before .before .before .before .before .before .before .before .pre .1) (c .before .before .before .before .before .before .before .item .ensures) (c .before .before .before .before .before .before .match .rest .0 .1) (c .before .before .before .before .before .before .match .rest .1)) (c .before .before .before .before .before .child2 .ensures)))
     (λ c κs. field-ready (c .before .before .before .before .before .before .pre .1) (c .before .before .before .before .before .item .ensures) (is-field (c .before .before .before .before .before .before .pre .1) (c .before .before .before .before .before .item .ensures) (c .before .before .before .before .match .rest .0 .1) (c .before .before .before .before .match .rest .1)))
     (λ c κs. field-ready (c .before .before .before .before .before .before .before .pre .1) (c .before .before .before .before .before .before .item .ensures) (is-field (c .before .before .before .before .before .before .before .pre .1) (c .before .before .before .before .before .before .item .ensures) (c .before .before .before .before .before .match .rest .0 .1) (c .before .before .before .before .before .match .rest .1)))
-    (λ c κs. (omega (arith, item-at (c .before .before .before .before .before .before .before .before .before .pre .1) 0 (omega arith)), ⊎-elim (λ w. ap length (w .5) ∙ w .3 .ensures .0 .room) (λ w. ap length (w .5) ∙ w .3 .ensures .0 .room) (c .before .before .before .if2 .came)))
+    (λ c κs. (omega (arith, item-at (c .before .before .before .before .before .before .before .before .before .pre .1) 0 (omega arith)), field-asks (c .before .before .before .before .before .before .before .before .before .pre .1) (c .before .before .before .before .before .before .before .before .item .ensures) (is-field (c .before .before .before .before .before .before .before .before .before .pre .1) (c .before .before .before .before .before .before .before .before .item .ensures) (c .before .before .before .before .before .before .before .match .rest .0 .1) (c .before .before .before .before .before .before .before .match .rest .1)) (c .before .count .ensures), ⊎-elim (λ w. ap length (w .5) ∙ w .3 .ensures .0 .room) (λ w. ap length (w .5) ∙ w .3 .ensures .0 .room) (c .before .before .before .if2 .came)))
     (λ c. (variable-answer (c .before .before .before .before .item .ensures) (c .before .before .item2 .ensures) (c .before .before .before .match .keys1) (c .variable .ensures), refl))
     (λ c. (deref-answer (c .before .before .before .before .before .before .before .item .ensures) (c .before .before .before .before .before .child .ensures) (c .before .before .before .before .before .before .match .keys2) (c .deref .ensures _) (⊎-elim (λ w. joined (w .4) (w .5) (w .6) (w .3 .ensures .0)) (λ w. joined (w .4) (w .5) (w .6) (w .3 .ensures .0)) (c .before .before .if1 .came)), ⊎-elim (λ w. kept-names (w .4) ∙ kept-names (w .3 .ensures .1)) (λ w. kept-names (w .4) ∙ w .3 .ensures .1) (c .before .before .if1 .came)))
     (λ c. (field-answer (c .before .before .before .before .before .before .before .before .before .item .ensures) (c .before .before .before .before .before .before .before .child2 .ensures) (is-field (c .before .before .before .before .before .before .before .before .before .before .pre .1) (c .before .before .before .before .before .before .before .before .before .item .ensures) (c .before .before .before .before .before .before .before .before .match .rest .0 .1) (c .before .before .before .before .before .before .before .before .match .rest .1)) (c .before .before .before .offset .ensures) (c .before .before .count .ensures) (c .field .ensures _) (⊎-elim (λ w. joined (w .4) (w .5) (w .6) (w .3 .ensures .0)) (λ w. joined (w .4) (w .5) (w .6) (w .3 .ensures .0)) (c .before .before .before .before .if2 .came)), ⊎-elim (λ w. kept-names (w .4) ∙ kept-names (w .3 .ensures .1)) (λ w. kept-names (w .4) ∙ w .3 .ensures .1) (c .before .before .before .before .if2 .came))))

@@ -9,10 +9,10 @@ returns : tie.Need-returns
 returns c m = passed-on (deref-step _) (c .before .pre .1) (c .if1 .taken)
 
 returns-2 : tie.Need-returns-2
-returns-2 c m = deref-yes _ (c .before .before .before .before .before .pre .1) (c .before .before .before .before .if1 .left) (c .before .within .ensures .0) (c .if2 .taken)
+returns-2 c m = deref-yes _ (c .before .before .before .before .before .pre .1) (c .before .before .before .before .if1 .left) (c .before .words-left .ensures .0) (c .if2 .taken)
 
 returns-3 : tie.Need-returns-3
-returns-3 c m = deref-no (c .before .before .before .before .before .before .if1 .left) (c .before .before .before .within .ensures .0) (c .before .before .if2 .left) (c .fail .ensures .0) (c .fail .ensures .1)
+returns-3 c m = deref-no (c .before .before .before .before .before .before .if1 .left) (c .before .before .before .words-left .ensures .0) (c .before .before .if2 .left) (c .fail .ensures .0) (c .fail .ensures .1)
 
 pub deref-spec : {M : Type 1} → statement M
 deref-spec = tie.close (tie.spec returns (λ c. search needs) (λ c. search needs) (λ c κs. search needs) returns-2 (λ c κs. search needs) returns-3)
