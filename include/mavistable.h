@@ -41,7 +41,7 @@ struct mavistable_explanation {
     size_t place;
     uint32_t command;
     uint32_t unused;
-    uint32_t node;    /* abort: the node, a follow or a field, whose bounds check was the first that was not passed */
+    uint32_t node;    /* abort: the node, a follow, a field or a copy, whose bounds check was the first that was not passed */
     uint32_t words;   /* abort: how many words it wanted */
     uint64_t wanted;  /* abort: the first of them; the exact sum, which can exceed 32 bits */
     uint32_t base;    /* abort: the bounds [base, end) of the pointer followed, both 0 if it had none */

@@ -54,11 +54,13 @@ fn command(l: &Lists, m: &mut Memory, p: usize, v: usize, s: &mut Slots) -> u64
     if FAILED <= at {
         return at;
     }
+    // Before the value, which can write to memory: the compiler then reads the note once, here and in `result`.
+    let of = type_of(l, v);
     let r = result(l, m, v, s);
     if FAILED <= r {
         return r;
     }
-    store(m, index(low(at)), type_of(l, v), low(r), s[BASE], s[END]);
+    store(m, index(low(at)), of, low(r), s[BASE], s[END]);
     0
 }
 

@@ -10,16 +10,16 @@ use Rattle.words.specs.Columns.{column}
 use Rattle.semantics.specs.Words.{Words, word}
 use Rattle.semantics.specs.Table.{nodes, count, is-pointer, known-type, known-target, size-of, constant, kind-of, node-kind, node-a, node-b, node-type}
 use Rattle.semantics.specs.Syntax.{value-of, step-of}
-use Rattle.semantics.specs.Rules.{Datum, Location, Event, State, Outcome, ok, fails, no-room, no-rule, unbounded, bind, variable-location, deref-step, field-step, read-step, address-step, cast-step, sum-step, malloc-step, place-at, value-at}
+use Rattle.semantics.specs.Rules.{Datum, Location, Event, State, Outcome, ok, fails, no-room, no-rule, unbounded, bind, variable-location, deref-step, field-step, read-step, address-step, cast-step, malloc-step, place-at, value-at}
 use Rattle.semantics.proofs.Ints.{cast-of-int}
-use Rattle.semantics.proofs.Invariant.{Inv, Datum-ok, Good}
+use Rattle.semantics.proofs.Invariant.{Inv, sound-later, Datum-ok, Good, good-ok, good-fails, good-no-room}
 use Rattle.semantics.proofs.Steps.{Value-ok, place-good, value-good}
 use Rattle.lookups.specs.Lists.{part, to-int-from-pointer, Lists, Field-node, Known-word}
-use Rattle.steps.specs.Answers.{slots, base-slot, end-slot, unused-slot, failed, state-of, Datum-is, Location-is, Stands, Answers, answers-ok, answers-failed, answers-full, Given, Finishes, Deref-finishes, Field-finishes, Sum-finishes, Load-finishes, Cast-finishes, Malloc-finishes}
+use Rattle.steps.specs.Answers.{slots, base-slot, end-slot, unused-slot, failed, state-of, Datum-is, Location-is, Stands, Answers, answers-ok, answers-failed, answers-full, Given, Finishes, Deref-finishes, Field-finishes, Sum-finishes, Load-finishes, Cast-finishes, Malloc-finishes, Both-ok, Copy-finishes}
 use Rattle.evaluator.specs.Result.{Node-answered, Place-answered, Value-answered}
 use Rattle.steps.proofs.Finish.{passed-on, given-ok, watches-on}
 use Rattle.lookups.proofs.Lookups.{noted-type}
-use Rattle.evaluator.proofs.Nodes.{value-node, offset-of, count-of, constant-node, size-node, variable-node, deref-node, field-node, sum-node, read-node, address-node, cast-node, malloc-node}
+use Rattle.evaluator.proofs.Nodes.{value-node, offset-of, count-of, constant-node, size-node, variable-node, deref-node, field-node, read-node, address-node, cast-node, malloc-node, Binary, sums, copies, operates, binary-node}
 use Rattle.evaluator.proofs.Outcomes.{worked-out, weakened, number-of, place-only}
 use Rattle.evaluator.proofs.Ready.{kind-is, a-is, b-is, size-known, read-type}
 
@@ -28,7 +28,7 @@ from : {A B : Type 0} {IsA Child : A → ℕ → Words → Type 0} {Is : B → �
     {outcome : Words → State → Outcome B} {l m m′ : List Words} {n a v r : ℕ} {s s₁ s₂ : Words} (f : A → State → Outcome B)
     → ((vars len : ℕ) (t : Words) (st : State) → TreeA vars t → Inv vars len st → Good vars len st (Ok vars) (child-outcome t st)) → ((x : A) → IsA x v s₁ → Child x v s₁)
     → ((t : Words) → Lists t l → n < count t nodes → (vars : ℕ) → Tree vars t → (a < n) × TreeA vars t × ((st : State) → outcome t st ≡ bind (child-outcome t st) f))
-    → Node-answered IsA TreeA child-outcome l m a s v m′ s₁ → Finishes Child Ok Is f m′ v s₁ r s₂ → Node-answered Is Tree outcome l m n s r m′ s₂
+    → Node-answered IsA TreeA child-outcome l m a s v m′ s₁ → Finishes Child Ok Is f m′ v s₁ r m′ s₂ → Node-answered Is Tree outcome l m n s r m′ s₂
 from f good less made child finish =
     record {
       room = finish .room;
@@ -190,57 +190,58 @@ module _ {l m : List Words} {n : ℕ} {s : Words} {k a : ℕ} (e : k ≡ part l 
       (rw p′ (nd .0 .less), rw p′ (nd .0 .tree), λ st. rw (nd .1, p′)))
       child finish
 
--- ---- a sum: the left operand, then the right one
+-- ---- a sum or a copy: the left operand, then the right one
 
--- The left operand of the sum n was worked out, v with the slots s₁: what is answered for it and the right operand d, with the step z, is
--- answered for the sum.
-record Left-done (l m : List Words) (n : ℕ) (s : Words) (d v z : ℕ) (m₁ : List Words) (s₁ : Words) : Type 0 where
+-- The left operand of node n was worked out, v with the slots s₁: what is answered for it and the right operand d, with the number of words z, is
+-- answered for the node.
+record Left-done (l m : List Words) (n : ℕ) (s : Words) {k : ℕ} (b : Binary k) (d v z : ℕ) (m₁ : List Words) (s₁ : Words) : Type 0 where
   then : {r : ℕ} {m₂ : List Words} {s₂ : Words} (t : Words) → Lists t l → n < count t nodes → (vars w : ℕ) (log : List Event)
       → Stands vars w m s log → Value-ok vars (value-of t n)
-      → ((x : Datum) (log₁ : List Event) → d < count t nodes → Value-ok vars (value-of t d) → Datum-is x v s₁ → Stands vars w m₁ s₁ log₁
-      → Answers Datum-is w m₂ r s₂ (bind (value-at (value-of t d) (state-of m₁ (word s₁ unused-slot) log₁)) (sum-step z x)))
+      → ((x : Datum) (log₁ : List Event) → d < count t nodes → Value-ok vars (value-of t d) → Datum-is x v s₁ → Stands vars w m₁ s₁ log₁ → Datum-ok vars x (state-of m₁ (word s₁ unused-slot) log₁)
+      → Answers Datum-is w m₂ r s₂ (bind (value-at (value-of t d) (state-of m₁ (word s₁ unused-slot) log₁)) (operates b n z x)))
       → Answers Datum-is w m₂ r s₂ (value-at (value-of t n) (state-of m (word s unused-slot) log))
 
-module _ {l m m₁ : List Words} {n k a v : ℕ} {s s₁ : Words} (e : k ≡ part l n 0) (p : a ≡ part l n 1) (q : k ≡ 5) (child : Value-answered l m a s v m₁ s₁) where
-  pub sum-ended-answer : failed ≤ v → Value-answered l m n s v m₁ s₁
-  unfolding place-at kind-of
-  sum-ended-answer over =
+module _ {l m m₁ : List Words} {n k a v x : ℕ} {s s₁ : Words} (b : Binary x) (e : k ≡ part l n 0) (p : a ≡ part l n 1) (q : k ≡ x) (child : Value-answered l m a s v m₁ s₁) where
+  pub ended-answer : failed ≤ v → Value-answered l m n s v m₁ s₁
+  ended-answer over =
       record {
         room = child .room;
         meets = λ t lists node vars w log st h.
-            let nd = sum-node t n (kind-is lists node e q) h in
+            let nd = binary-node b t n (lists .passed) node (kind-is lists node e q) h in
             let p′ = a-is lists node p in
-            let tree = rw (← p′) at (nd .0 .tree) in
-            rw (nd .2, ← p′) (passed-on {Ok = Datum-ok} _ (child .room) over .meets vars _ w _ _ (child .meets t lists (omega (arith, nd .0 .less, p′)) vars w log st tree) (value-good tree _ (st .inv)));
+            let tree = rw (← p′) at (nd .left .tree) in
+            rw (nd .outcome _, ← p′) (passed-on {Ok = Datum-ok} _ (child .room) over .meets vars _ w _ _ (child .meets t lists (omega (arith, nd .left .less, p′)) vars w log st tree) (value-good tree _ (st .inv)));
       }
 
   -- The child's number is read again for its type, a₂.
   module _ {d a₂ y z : ℕ} (g : d ≡ part l n 2) (under : v < failed) (p₂ : a₂ ≡ part l n 1) (hy : y ≡ word (column l 1) a₂ % 128) (hz : (t : Words) → Known-word known-type t l y → z ≡ step-of t y) where
-    left-done : Left-done l m n s d v z m₁ s₁
-    unfolding place-at kind-of
+    left-done : Left-done l m n s b d v z m₁ s₁
     left-done =
         record {
           then = λ t lists node vars w log st h goes.
-              let nd = sum-node t n (kind-is lists node e q) h in
+              let nd = binary-node b t n (lists .passed) node (kind-is lists node e q) h in
               let p′ = a-is lists node p in
               let d′ = b-is lists node g in
-              let tree = rw (← p′) at (nd .0 .tree) in
-              let inside : a < count t nodes = omega (arith, nd .0 .less, p′) in
+              let tree = rw (← p′) at (nd .left .tree) in
+              let inside : a < count t nodes = omega (arith, nd .left .less, p′) in
               let noted = noted-type lists inside (rw (p₂, ← p) at hy) in
               let step : step-of t (node-type t a) ≡ z = ap (step-of t) (sym (noted .0)) ∙ sym (hz t (noted .1)) in
-              rw (nd .2, ← p′, step, ← d′)
+              rw (nd .outcome _, ← p′, step, ← d′)
               (let left = worked-out (child .meets t lists inside vars w log st tree) (value-good tree _ (st .inv)) under in
-              rw (left .outcome) (goes (left .result) (left .log) (omega (arith, nd .1 .less, d′)) (rw d′ (nd .1 .tree)) (left .is) (left .stands)));
+              rw (left .outcome) (goes (left .result) (left .log) (omega (arith, nd .right .less, d′)) (rw d′ (nd .right .tree)) (left .is) (left .stands) (left .fine)));
         }
 
+module _ {l m m₁ : List Words} {n k a v : ℕ} {s s₁ : Words} (e : k ≡ part l n 0) (p : a ≡ part l n 1) (child : Value-answered l m a s v m₁ s₁) {d a₂ y z : ℕ} (g : d ≡ part l n 2) (under : v < failed)
+    (p₂ : a₂ ≡ part l n 1) (hy : y ≡ word (column l 1) a₂ % 128) (hz : (t : Words) → Known-word known-type t l y → z ≡ step-of t y) where
+  module _ (q : k ≡ 5) where
     pub sum-answer : {w r : ℕ} {m₂ : List Words} {s₂ s₃ : Words} → Value-answered l m₁ d s₁ w m₂ s₂
         → ((x : Datum) → x .value ≡ v → x .base ≡ word s₁ base-slot → x .end ≡ word s₁ end-slot → Sum-finishes z x m₂ w s₂ r s₃) → Value-answered l m n s r m₂ s₃
     sum-answer right finish =
         record {
           room = finish (record { value = v; base = word s₁ base-slot; end = word s₁ end-slot }) refl refl refl .room;
           meets = λ t lists node vars watched log st h.
-              left-done .then t lists node vars watched log st h
-              (λ x log₁ inside tree hx st₁.
+              left-done sums e p q child g under p₂ hy hz .then t lists node vars watched log st h
+              (λ x log₁ inside tree hx st₁ fine.
               finish x (hx .value) (hx .base) (hx .end) .meets vars _ watched _ _ (weakened number-of (right .meets t lists inside vars watched log₁ st₁ tree)) (value-good tree _ (st₁ .inv)));
         }
 
@@ -252,8 +253,25 @@ module _ {l m m₁ : List Words} {n k a v : ℕ} {s s₁ : Words} (e : k ≡ par
         record {
           room = child .room;
           meets = λ t lists node vars watched log st h.
-              left-done .then t lists node vars watched log st h
-              (λ y log₁ inside tree hx st₁.
+              left-done sums e p q child g under p₂ hy hz .then t lists node vars watched log st h
+              (λ y log₁ inside tree hx st₁ fine.
               rw (constant-node t d (four t lists inside), ← a-is lists inside x)
               (answers-ok _ log₁ (record { value = ap₂ (λ p x. (p + z * x) % 4294967296) (hx .value) (sym hw) ∙ sym hr; base = hx .base; end = hx .end }) small (st₁ .watches)));
         }
+
+  -- The bounds of the left operand are absent or held when the right one has been worked out too.
+  pub copy-answer : {w r n′ : ℕ} {m₂ m₃ : List Words} {s₂ s₃ : Words} → k ≡ 11 → n′ ≡ n → Value-answered l m₁ d s₁ w m₂ s₂
+      → ((x : Datum) → x .value ≡ v → x .base ≡ word s₁ base-slot → x .end ≡ word s₁ end-slot → Copy-finishes n′ z x m₂ w s₂ r m₃ s₃) → Value-answered l m n s r m₃ s₃
+  copy-answer q same right finish =
+      record {
+        room = finish (record { value = v; base = word s₁ base-slot; end = word s₁ end-slot }) refl refl refl .room;
+        meets = λ t lists node vars watched log st h.
+            left-done copies e p q child g under p₂ hy hz .then t lists node vars watched log st h
+            (λ x log₁ inside tree hx st₁ fine.
+            rw same at (finish x (hx .value) (hx .base) (hx .end)) .meets vars _ watched _ _ (right .meets t lists inside vars watched log₁ st₁ tree) (both fine (value-good tree _ (st₁ .inv))));
+      }
+    where
+      both : {vars len : ℕ} {x : Datum} {st : State} {o : Outcome Datum} → Datum-ok vars x st → Good vars len st (Datum-ok vars) o → Good vars len st (Both-ok x vars) o
+      both fine (good-ok inv later right) = good-ok inv later (record { left = record { sound = sound-later (later .more) (fine .sound) }; right = right })
+      both fine (good-fails inv later sound) = good-fails inv later sound
+      both fine (good-no-room inv later) = good-no-room inv later

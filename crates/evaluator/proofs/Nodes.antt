@@ -1,23 +1,26 @@
 -- A node that makes sense: its kind, its children, and its tree.
 use Prim.Native.Nat.{ℕ, zero, suc, _≤_, _<_}
-use mathlib.Core.Bool.{Bool, _&&_}
+use mathlib.Core.Bool.{Bool, true, _&&_}
 use mathlib.Core.Path.{_≡_, refl, ap, ap₂, _∙_}
 use native.Mathlib.Omega.{arith}
 use native.Mathlib.Decide.{decLt}
 use lib.ListN.{getD, List·getD-eq-default}
 use Rattle.semantics.specs.Words.{Words, grow}
-use Rattle.semantics.specs.Table.{nodes, item, is-pointer, pointed-record, field-offset, field-count, size-of, Kind, variable, deref, field, constant, sum, read, address, cast, size, malloc, unknown, kind-of, Sort, sort-of, node-kind, node-a, node-b, node-type}
+use Rattle.semantics.specs.Table.{nodes, item, count, is-pointer, target, points-to-record, pointed-record, field-offset, field-count, size-of, Kind, variable, deref, field, constant, sum, read, address, cast, size, malloc, copy, unknown, kind-of, Sort, sort-of, node-kind, node-a, node-b, node-type}
 use Rattle.semantics.specs.Table as Table
-use Rattle.semantics.specs.Syntax.{Place, Variable, Deref, Field, Value, Number, Sum, Read, Address, Cast, Malloc, Tree, senseless, as-place, as-value, step-of, tree-by-kind, tree-rule, trees-below, tree-of, place-of, value-of}
+use Rattle.semantics.specs.Syntax.{Place, Variable, Deref, Field, Value, Number, Sum, Read, Address, Cast, Malloc, Copy, Tree, senseless, as-place, as-value, step-of, tree-by-kind, tree-rule, trees-below, tree-of, place-of, value-of}
+use Rattle.semantics.specs.Rules.{Datum, State, Outcome, bind, sum-step, copy-step, value-at}
+use Rattle.semantics.proofs.Tests.{and-true}
+use Rattle.semantics.proofs.Passed.{Passed}
 use Rattle.semantics.proofs.Lists.{length-grow}
-use Rattle.semantics.proofs.Trees.{trees-at}
-use Rattle.semantics.proofs.Steps.{Place-ok, variable-ok, deref-ok, field-ok, Value-ok, sum-ok, read-ok, address-ok, cast-ok, malloc-ok}
+use Rattle.semantics.proofs.Trees.{Node-ok, node-ok, trees-at}
+use Rattle.semantics.proofs.Steps.{Place-ok, variable-ok, deref-ok, field-ok, Value-ok, sum-ok, read-ok, address-ok, cast-ok, malloc-ok, copy-ok}
 
 -- ---- kinds
 
 abbrev Range : Sort → ℕ → Type 0
 Range Table.place k = (1 ≤ k) × (k ≤ 3)
-Range Table.value k = (4 ≤ k) × (k ≤ 10)
+Range Table.value k = (4 ≤ k) × (k ≤ 11)
 Range Table.neither k = Unit {0}
 
 kind-range : (k : ℕ) → Range (sort-of (kind-of k)) k
@@ -33,7 +36,8 @@ kind-range (suc (suc (suc (suc (suc (suc (suc zero))))))) = omega arith
 kind-range (suc (suc (suc (suc (suc (suc (suc (suc zero)))))))) = omega arith
 kind-range (suc (suc (suc (suc (suc (suc (suc (suc (suc zero))))))))) = omega arith
 kind-range (suc (suc (suc (suc (suc (suc (suc (suc (suc (suc zero)))))))))) = omega arith
-kind-range (suc (suc (suc (suc (suc (suc (suc (suc (suc (suc (suc n))))))))))) = tt
+kind-range (suc (suc (suc (suc (suc (suc (suc (suc (suc (suc (suc zero))))))))))) = omega arith
+kind-range (suc (suc (suc (suc (suc (suc (suc (suc (suc (suc (suc (suc n)))))))))))) = tt
 
 -- A tree that is a place comes of a place's kind, one that is a value of a value's.
 module _ {vars : ℕ} (t : Words) (n a b : ℕ) (tree : ℕ → Tree) where
@@ -48,6 +52,7 @@ module _ {vars : ℕ} (t : Words) (n a b : ℕ) (tree : ℕ → Tree) where
   place-sort cast h = elim h [ ]
   place-sort size h = elim h [ ]
   place-sort malloc h = elim h [ ]
+  place-sort copy h = elim h [ ]
   place-sort unknown h = elim h [ ]
 
   value-sort : (k : Kind) → Value-ok vars (as-value (tree-by-kind t n k a b tree)) → sort-of k ≡ Table.value
@@ -61,13 +66,14 @@ module _ {vars : ℕ} (t : Words) (n a b : ℕ) (tree : ℕ → Tree) where
   value-sort cast h = refl
   value-sort size h = refl
   value-sort malloc h = refl
+  value-sort copy h = refl
   value-sort unknown h = elim h [ ]
 
 pub place-kind : {vars : ℕ} (t : Words) (n : ℕ) → Place-ok vars (place-of t n) → (1 ≤ item t nodes n 0) × (item t nodes n 0 ≤ 3)
 unfolding place-of tree-of tree-rule node-kind
 place-kind t n h = rw (place-sort t n _ _ (λ x. getD (trees-below t n) x senseless) (kind-of (item t nodes n 0)) h) at (kind-range (item t nodes n 0))
 
-pub value-kind : {vars : ℕ} (t : Words) (n : ℕ) → Value-ok vars (value-of t n) → (4 ≤ item t nodes n 0) × (item t nodes n 0 ≤ 10)
+pub value-kind : {vars : ℕ} (t : Words) (n : ℕ) → Value-ok vars (value-of t n) → (4 ≤ item t nodes n 0) × (item t nodes n 0 ≤ 11)
 unfolding value-of tree-of tree-rule node-kind
 value-kind t n h = rw (value-sort t n _ _ (λ x. getD (trees-below t n) x senseless) (kind-of (item t nodes n 0)) h) at (kind-range (item t nodes n 0))
 
@@ -139,7 +145,7 @@ pub size-node : (t : Words) (n : ℕ) → node-kind t n ≡ size → value-of t 
 unfolding value-of tree-of tree-rule
 size-node t n k = rw k
 
--- A field's offset and its words, a sum's step, and whether a cast keeps bounds.
+-- A field's offset and its words, a sum's step, a copy's words, and whether a cast keeps bounds.
 abbrev pub offset-of : Words → ℕ → ℕ
 offset-of t n = field-offset t (pointed-record t (node-type t (node-a t n))) (node-b t n)
 
@@ -148,6 +154,9 @@ count-of t n = field-count t (pointed-record t (node-type t (node-a t n))) (node
 
 abbrev pub moves-by : Words → ℕ → ℕ
 moves-by t n = step-of t (node-type t (node-a t n))
+
+abbrev pub copies-words : Words → ℕ → ℕ
+copies-words t n = size-of t (target t (node-type t (node-a t n)))
 
 abbrev pub cast-keeps : Words → ℕ → Bool
 cast-keeps t n = is-pointer (node-type t (node-a t n)) && is-pointer (node-b t n)
@@ -175,21 +184,33 @@ module _ {vars : ℕ} (t : Words) (n : ℕ) where
       inner : (v : Value) → Place-ok vars (Field n (offset-of t n) (count-of t n) v) → Value-ok vars v
       inner v (field-ok some ok) = ok
 
-  pub sum-node : node-kind t n ≡ sum → Value-ok vars (value-of t n)
+  -- A tree that is F of two values: where it makes sense, so do both.
+  with-both : (F : Value → Value → Value) {b : Value} → b ≡ F (as-value (getD (trees-below t n) (node-a t n) senseless)) (as-value (getD (trees-below t n) (node-b t n) senseless))
+      → ((v w : Value) → Value-ok vars (F v w) → Value-ok vars v × Value-ok vars w) → Value-ok vars b
+      → Value-child vars t n (node-a t n) × Value-child vars t n (node-b t n) × (b ≡ F (value-of t (node-a t n)) (value-of t (node-b t n)))
+  with-both F e inner h =
+      let both = inner _ _ (rw e at h) in
+      let l = child as-value value-of (Value-ok vars) value-read no-value t n (node-a t n) (both .0) in
+      let r = child as-value value-of (Value-ok vars) value-read no-value t n (node-b t n) (both .1) in
+      (l, r, e ∙ ap₂ F (l .same) (r .same))
+
+  sum-node : node-kind t n ≡ sum → Value-ok vars (value-of t n)
       → Value-child vars t n (node-a t n) × Value-child vars t n (node-b t n)
       × (value-of t n ≡ Sum n (moves-by t n) (value-of t (node-a t n)) (value-of t (node-b t n)))
   unfolding value-of tree-of tree-rule
-  sum-node k h =
-      let e : value-of t n ≡ Sum n (moves-by t n) (as-value (getD (trees-below t n) (node-a t n) senseless)) (as-value (getD (trees-below t n) (node-b t n) senseless)) = rw k in
-      let l = child as-value value-of (Value-ok vars) value-read no-value t n (node-a t n) (left (rw e at h)) in
-      let r = child as-value value-of (Value-ok vars) value-read no-value t n (node-b t n) (right (rw e at h)) in
-      (l, r, e ∙ ap₂ (Sum n (moves-by t n)) (l .same) (r .same))
+  sum-node k h = with-both (Sum n (moves-by t n)) (rw k) inner h
     where
-      left : {step : ℕ} {v w : Value} → Value-ok vars (Sum n step v w) → Value-ok vars v
-      left (sum-ok v w) = v
+      inner : (v w : Value) → Value-ok vars (Sum n (moves-by t n) v w) → Value-ok vars v × Value-ok vars w
+      inner v w (sum-ok a b) = (a, b)
 
-      right : {step : ℕ} {v w : Value} → Value-ok vars (Sum n step v w) → Value-ok vars w
-      right (sum-ok v w) = w
+  copy-node : node-kind t n ≡ copy → Value-ok vars (value-of t n)
+      → Value-child vars t n (node-a t n) × Value-child vars t n (node-b t n)
+      × (value-of t n ≡ Copy n (copies-words t n) (value-of t (node-a t n)) (value-of t (node-b t n)))
+  unfolding value-of tree-of tree-rule
+  copy-node k h = with-both (Copy n (copies-words t n)) (rw k) inner h
+    where
+      inner : (v w : Value) → Value-ok vars (Copy n (copies-words t n) v w) → Value-ok vars v × Value-ok vars w
+      inner v w (copy-ok some a b) = (a, b)
 
   pub read-node : node-kind t n ≡ read → Value-ok vars (value-of t n)
       → Place-child vars t n (node-a t n) × (value-of t n ≡ Read n (is-pointer (node-type t n)) (place-of t (node-a t n)))
@@ -220,3 +241,45 @@ module _ {vars : ℕ} (t : Words) (n : ℕ) where
     where
       inner : (v : Value) → Value-ok vars (Malloc n v) → Value-ok vars v
       inner v (malloc-ok ok) = ok
+
+-- ---- sums and copies: two values, a before b
+
+-- The kinds of these nodes.
+pub data Binary : ℕ → Type 0 where
+  sums : Binary 5
+  copies : Binary 11
+
+-- What node n does with both values. The number is the words by which 1 moves the left one: those of the record, for a copy.
+abbrev pub operates : {x : ℕ} → Binary x → (n words : ℕ) → Datum → Datum → State → Outcome Datum
+operates sums n words = sum-step words
+operates copies n words = copy-step n words
+
+pub record Operands (vars : ℕ) (t : Words) (n : ℕ) {x : ℕ} (b : Binary x) : Type 0 where
+  pub left : Value-child vars t n (node-a t n)
+  pub right : Value-child vars t n (node-b t n)
+  pub outcome : (st : State)
+      → value-at (value-of t n) st ≡ bind (value-at (value-of t (node-a t n)) st) (λ p s. bind (value-at (value-of t (node-b t n)) s) (operates b n (moves-by t n) p))
+
+-- A copy's left operand points to a record.
+pub copy-points : (t : Words) (n : ℕ) → Passed t → n < count t nodes → node-kind t n ≡ copy → points-to-record t (node-type t (node-a t n)) ≡ true
+copy-points t n passed node k =
+    let g : Node-ok t n copy (node-a t n) (node-b t n) = rw k at (node-ok t n (passed .node-passes n node)) in
+    and-true (points-to-record t (node-type t (node-a t n))) _ (g .fit) .0
+
+copies-step : (t : Words) (n : ℕ) → Passed t → n < count t nodes → node-kind t n ≡ copy → copies-words t n ≡ moves-by t n
+unfolding step-of
+copies-step t n passed node k = rw (copy-points t n passed node k)
+
+pub binary-node : {vars x : ℕ} (b : Binary x) (t : Words) (n : ℕ) → Passed t → n < count t nodes → node-kind t n ≡ kind-of x → Value-ok vars (value-of t n) → Operands vars t n b
+unfolding kind-of value-at
+binary-node sums t n passed node k h = let nd = sum-node t n k h in record { left = nd .0; right = nd .1; outcome = λ st. rw (nd .2) }
+binary-node copies t n passed node k h =
+    let nd = copy-node t n k h in
+    record { left = nd .0; right = nd .1; outcome = λ st. rw (nd .2, copies-step t n passed node k) }
+
+-- A copy has at least one word.
+pub copy-some : {vars : ℕ} (t : Words) (n : ℕ) → Passed t → n < count t nodes → node-kind t n ≡ copy → Value-ok vars (value-of t n) → 1 ≤ moves-by t n
+copy-some {vars} t n passed node k h = rw (← (copies-step t n passed node k)) (some (rw (copy-node t n k h .2) at h))
+  where
+    some : {words : ℕ} {v w : Value} → Value-ok vars (Copy n words v w) → 1 ≤ words
+    some (copy-ok more a b) = more

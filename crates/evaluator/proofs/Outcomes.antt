@@ -16,12 +16,12 @@ use Rattle.evaluator.specs.Result.{Value-answered}
 pub own-length : {vars len : ℕ} {st : State} → Inv vars len st → Inv vars (length (st .values)) st
 own-length {vars} {st = st} inv = subst (λ k. Inv vars k st) (sym (inv .values-length)) inv
 
--- What follows from an outcome that was answered, and is good: the lists are as long as they were, and a place lies within them.
-pub length-after : {A : Type 0} {Is : A → ℕ → Words → Type 0} {P : A → State → Type 0} {m : List Words} {w r : ℕ} {s : Words} {vars len : ℕ} {s₀ : State} {o : Outcome A}
-    → Answers Is w m r s o → Good vars len s₀ P o → length (column m 0) ≡ len
-length-after (answers-ok x log h small watch) (good-ok inv later fine) = inv .values-length
-length-after (answers-failed log h watch) (good-fails inv later sound) = inv .values-length
-length-after (answers-full log h) (good-no-room inv later) = inv .values-length
+-- What follows from an outcome that was answered, and is good: the lists are as long as they were.
+pub lengths-after : {A : Type 0} {Is : A → ℕ → Words → Type 0} {P : A → State → Type 0} {m : List Words} {w r : ℕ} {s : Words} {vars len : ℕ} {s₀ : State} {o : Outcome A}
+    → Answers Is w m r s o → Good vars len s₀ P o → (length (column m 0) ≡ len) × (length (column m 1) ≡ len) × (length (column m 2) ≡ len)
+lengths-after (answers-ok x log h small watch) (good-ok inv later fine) = (inv .values-length, inv .bases-length, inv .ends-length)
+lengths-after (answers-failed log h watch) (good-fails inv later sound) = (inv .values-length, inv .bases-length, inv .ends-length)
+lengths-after (answers-full log h) (good-no-room inv later) = (inv .values-length, inv .bases-length, inv .ends-length)
 
 -- The result of a good outcome that was answered by v, no failure, and the state that it leaves.
 pub record Worked-out {A : Type 0} (Is : A → ℕ → Words → Type 0) (P : A → State → Type 0) (vars len w : ℕ) (m : List Words) (v : ℕ) (s : Words) (s₀ : State) (o : Outcome A) : Type 0 where

@@ -35,8 +35,10 @@ use steps::END;
 use steps::FAILED;
 use steps::Memory;
 use steps::Slots;
+use steps::VALUE;
 use steps::add;
 use steps::allocate;
+use steps::copy;
 use steps::deref;
 use steps::drop_bounds;
 use steps::fetch;
@@ -48,6 +50,8 @@ use steps::variable;
 use steps::words;
 use words::index;
 use words::long;
+use words::low;
+use words::narrow;
 
 // The size that node n asks for, a number.
 fn size(l: &Lists, n: usize, s: &mut Slots) -> u64
@@ -142,13 +146,34 @@ pub fn value(l: &Lists, m: &mut Memory, n: usize, s: &mut Slots) -> u64
             value(l, m, c, s)
         }
         kind::SIZE => size(l, n, s),
+        // An allocation or a copy. A copy's left operand is no constant: an allocation of a constant is not asked which of both it is.
         _ => {
             let c = child(l, n, A);
             if is_constant(noted(l, c)) {
                 return allocate(long(item(l, c, A)), words(m), s);
             }
+            if item(l, n, KIND) == kind::MALLOC {
+                let v = value(l, m, c, s);
+                return allocate(v, words(m), s);
+            }
+            // In an array: kept over the calls, these numbers would be more registers for every call to save.
+            let mut to = [0, 0, 0, narrow(n)];
             let v = value(l, m, c, s);
-            allocate(v, words(m), s)
+            if FAILED <= v {
+                return v;
+            }
+            to[BASE] = s[BASE];
+            to[END] = s[END];
+            to[VALUE] = low(v);
+            // The words of the record: 1 moves a pointer to it by as many.
+            let k = step(l, type_of(l, child(l, n, A)));
+            let d = child(l, n, B);
+            if of_variable(noted(l, d)) {
+                let w = read_variable(l, m, d, s);
+                return copy(m, &to, k, w, s);
+            }
+            let w = value(l, m, d, s);
+            copy(m, &to, k, w, s)
         }
     }
 }

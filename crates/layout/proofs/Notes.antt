@@ -8,7 +8,7 @@ use native.Mathlib.Decide.{decLt}
 use borrow.Author.Tests.{eqb-true}
 use lib.Dec.{eqb}
 use Rattle.semantics.specs.Words.{Words, if_then_else_}
-use Rattle.semantics.specs.Table.{nodes, item, Kind, variable, deref, field, constant, sum, read, address, cast, size, malloc, unknown, place, value, neither, sort-of, node-kind, node-a, node-type}
+use Rattle.semantics.specs.Table.{nodes, item, Kind, variable, deref, field, constant, sum, read, address, cast, size, malloc, copy, unknown, place, value, neither, sort-of, node-kind, node-a, node-type}
 use Rattle.layout.specs.Notes.{bits, note}
 
 -- The bits v of a node of kind k whose first child is of the kind with number c: how often each is in v, and what it says.
@@ -51,6 +51,7 @@ says address c = no-bit value-other
 says cast c = no-bit value-other
 says size c = no-bit value-other
 says malloc c = no-bit value-other
+says copy c = no-bit value-other
 says unknown c = no-bit neither-other
 
 module _ (t : Words) (n : ℕ) (small : node-type t n < 128) where

@@ -2,7 +2,7 @@
 use Prim.Native.Nat.{ℕ, _+_}
 use lib.Dec.{eqb}
 use Rattle.semantics.specs.Words.{Words, if_then_else_}
-use Rattle.semantics.specs.Table.{nodes, item, Kind, variable, deref, field, constant, sum, read, address, cast, size, malloc, unknown, node-kind, node-a, node-type}
+use Rattle.semantics.specs.Table.{nodes, item, Kind, variable, deref, field, constant, sum, read, address, cast, size, malloc, copy, unknown, node-kind, node-a, node-type}
 
 -- Types are below the lowest bit.
 abbrev pub constant-bit : ℕ
@@ -27,6 +27,7 @@ bits address c = 0
 bits cast c = 0
 bits size c = 0
 bits malloc c = 0
+bits copy c = 0
 bits unknown c = 0
 
 -- The note of node n.

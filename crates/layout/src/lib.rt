@@ -64,6 +64,8 @@ pub mod kind {
     pub const SIZE: u32 = 9;
 
     pub const MALLOC: u32 = 10;
+
+    pub const COPY: u32 = 11;
 }
 
 // The bits of a node's note. Types are below the lowest.

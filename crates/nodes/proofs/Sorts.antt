@@ -3,6 +3,7 @@ use Prim.Native.Nat.{ℕ, _+_, _/_, _≤_, _<_, _%_}
 use mathlib.Core.Bool.{Bool, true, false, not, _||_, true≢false}
 use mathlib.Core.Path.{_≡_, refl, sym, _∙_}
 use native.Mathlib.Omega.{arith}
+use native.Mathlib.Nat.{le-antisymm}
 use native.Mathlib.Decide.{decLt, ℕ-discrete}
 use borrow.Author.Tests.{lt-ltb, le-ltb, ltb-true, eqb-true, ne-eqb}
 use lib.Dec.{ltb, eqb}
@@ -11,6 +12,7 @@ use Rattle.semantics.specs.Words.{Words, word}
 use Rattle.semantics.specs.Table.{nodes, item, known-type, variable, read, unknown, kinds, kind-of, Sort, place, value, neither, sort-of, node-kind, types-below, node-type}
 use Rattle.semantics.specs.Check.{passes, _or-else_, require, each, same-sort, is-child, node-fault}
 use Rattle.semantics.proofs.Passed.{or-else-passes, require-passes, each-passes}
+use Rattle.semantics.proofs.Tests.{past}
 use Rattle.semantics.proofs.Trees.{types-at, types-known}
 use Rattle.layout.specs.Notes.{bits, note}
 use Rattle.layout.proofs.Notes.{type-noted, variable-noted, place-noted, place-high}
@@ -24,7 +26,7 @@ pub unknown-low : (k : ℕ) → k < 1 → kind-of k ≡ unknown
 unfolding kind-of
 unknown-low k h = let z : k ≡ 0 = omega arith in rw z
 
-pub unknown-high : (k : ℕ) → 11 ≤ k → kind-of k ≡ unknown
+pub unknown-high : (k : ℕ) → 12 ≤ k → kind-of k ≡ unknown
 unfolding kind-of
 unknown-high k h = List·getD-eq-default kinds unknown h
 
@@ -32,8 +34,8 @@ unknown-high k h = List·getD-eq-default kinds unknown h
 pub none-before : (k : ℕ) → k < 4 → (k ≡ 1 → ⊥) → (k ≡ 2 → ⊥) → (k ≡ 3 → ⊥) → k < 1
 none-before k l h₁ h₂ h₃ = omega arith
 
-pub last-value : (k : ℕ) → 4 ≤ k → k < 11 → (k ≡ 4 → ⊥) → (k ≡ 5 → ⊥) → (k ≡ 6 → ⊥) → (k ≡ 7 → ⊥) → (k ≡ 8 → ⊥) → (k ≡ 9 → ⊥) → k ≡ 10
-last-value k h l h₄ h₅ h₆ h₇ h₈ h₉ = omega arith
+pub last-value : (k : ℕ) → 4 ≤ k → k < 12 → (k ≡ 4 → ⊥) → (k ≡ 5 → ⊥) → (k ≡ 6 → ⊥) → (k ≡ 7 → ⊥) → (k ≡ 8 → ⊥) → (k ≡ 9 → ⊥) → (k ≡ 10 → ⊥) → k ≡ 11
+last-value k h l h₄ h₅ h₆ h₇ h₈ h₉ h₁₀ = le-antisymm (omega arith) (past (past (past (past (past (past (past h h₄) h₅) h₆) h₇) h₈) h₉) h₁₀)
 
 -- Of the kinds only 1 has all the bits of a variable.
 one-variable : ℕ → Bool
@@ -41,10 +43,10 @@ one-variable k = ltb (bits (kind-of k) 0) 768 || eqb k 1
 
 variable-number : (k : ℕ) → kind-of k ≡ variable → k ≡ 1
 unfolding one-variable each require _or-else_ kind-of
-variable-number k e = go (decLt k 11)
+variable-number k e = go (decLt k 12)
   where
-    go : Dec (k < 11) → k ≡ 1
-    go (yes less) = eqb-true k 1 (rw e at (require-passes (one-variable k) 7 0 (each-passes 11 (λ (i : ℕ). require (one-variable i) 7 0) refl k less)))
+    go : Dec (k < 12) → k ≡ 1
+    go (yes less) = eqb-true k 1 (rw e at (require-passes (one-variable k) 7 0 (each-passes 12 (λ (i : ℕ). require (one-variable i) 7 0) refl k less)))
     go (no more) = absurd (let q = unknown-high k (omega arith) in let z : _≡_ {A = ℕ} 0 1 = cc in omega arith)
 
 -- ---- notes

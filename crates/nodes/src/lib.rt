@@ -8,7 +8,7 @@ ghost use Prim.Native.Nat.{ℕ, _+_, _<_, _≤_, _^_, _%_};
 ghost use lib.Dec.{eqb};
 ghost use lib.ListN.{length};
 ghost use Rattle.semantics.specs.Words.{Words, word};
-ghost use Rattle.semantics.specs.Table.{count-place, count, target, Sort, deref, field, variable, constant, sum, read, address, cast, size, malloc};
+ghost use Rattle.semantics.specs.Table.{count-place, count, target, Sort, deref, field, variable, constant, sum, read, address, cast, size, malloc, copy};
 ghost use Rattle.semantics.specs.Check.{passes, require, _or-else_, is-child};
 ghost use Rattle.layout.specs.Layout.{verdict-of, Stands};
 ghost use Rattle.layout.specs.Types.{Marks};
@@ -252,6 +252,30 @@ fn malloc(notes: &Notes, n: usize, place: usize, a: u32, b: u32) -> Typed
     Typed::Is(VOID)
 }
 
+// a and b point to the same record.
+fn copy(t: &[u32], notes: &Notes, targets: usize, n: usize, place: usize, a: u32, b: u32) -> Typed
+    requires { ⌜ (Reached (now t) (now notes) n place) × (targets ≡ count-place (now t) 2 + 1) ⌝ }
+    ensures { λ r. ⌜ r ≡ typed-kind (now (t .entry)) n copy a b ⌝ }
+{
+    if !is_child(notes, n, a, note::VALUE) {
+        return Typed::Refused(7, place + 1);
+    }
+    if !is_child(notes, n, b, note::VALUE) {
+        return Typed::Refused(7, place + 2);
+    }
+    let pointer = type_of(notes, a);
+    if pointer < ENTRY {
+        return Typed::Refused(8, place);
+    }
+    if target(t, targets, pointer) < Table::RECORD {
+        return Typed::Refused(8, place);
+    }
+    if type_of(notes, b) != pointer {
+        return Typed::Refused(8, place);
+    }
+    Typed::Is(INT)
+}
+
 // The functions below tell a node's answer. Where it has a type, they note it with the bits `mark` and count the uses of the node's
 // children.
 
@@ -352,7 +376,7 @@ pub fn check_node(
     let kind = t[place];
     let a = t[place + 1];
     let b = t[place + 2];
-    // Places are the kinds 1..=3, values 4..=10. Within a range all kinds are listed, so that the compiler tests the range only once. 0 is refused
+    // Places are the kinds 1..=3, values 4..=11. Within a range all kinds are listed, so that the compiler tests the range only once. 0 is refused
     // beside the places: apart, it would be a test more for every node.
     match kind {
         0 | kind::VARIABLE..=kind::FIELD => match kind {
@@ -370,7 +394,7 @@ pub fn check_node(
             }
             _ => Verdict::Refused(7, place),
         },
-        kind::CONSTANT..=kind::MALLOC => match kind {
+        kind::CONSTANT..=kind::COPY => match kind {
             kind::CONSTANT => enter(constant(place, a, b), notes, n, note::CONSTANT),
             kind::SUM => {
                 let x = sum(notes, n, place, a, b);
@@ -392,6 +416,10 @@ pub fn check_node(
             kind::MALLOC => {
                 let x = malloc(notes, n, place, a, b);
                 with_child(x, notes, uses, n, note::VALUE, a)
+            }
+            kind::COPY => {
+                let x = copy(t, notes, pointers.at, n, place, a, b);
+                with_children(x, notes, uses, n, note::VALUE, a, b)
             }
             _ => Verdict::Refused(7, place),
         },

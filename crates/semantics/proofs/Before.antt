@@ -9,12 +9,12 @@ use lib.Dec.{leb}
 use Rattle.semantics.specs.Words.{Words, if_then_else_}
 use Rattle.semantics.specs.Table.{commands, count, is-pointer, node-type}
 use Rattle.semantics.specs.Check.{command-place, command-value}
-use Rattle.semantics.specs.Syntax.{Place, Variable, Deref, Field, NoPlace, Value, Number, Sum, Read, Address, Cast, Malloc, NoValue, place-of, value-of}
-use Rattle.semantics.specs.Rules.{Datum, unbounded, followed, Location, variable-location, tested, State, noted, Outcome, ok, fails, no-room, no-rule, bind, enough-left, check-of, checked, deref-step, field-step, read-step, address-step, sum-step, cast-step, malloc-step, place-at, value-at, assign-step, assign}
+use Rattle.semantics.specs.Syntax.{Place, Variable, Deref, Field, NoPlace, Value, Number, Sum, Read, Address, Cast, Malloc, Copy, NoValue, place-of, value-of}
+use Rattle.semantics.specs.Rules.{Datum, unbounded, followed, Location, variable-location, tested, State, noted, Outcome, ok, fails, no-room, no-rule, bind, enough-left, check-of, checked, pointed, deref-step, field-step, read-step, address-step, sum-step, cast-step, malloc-step, move-step, copy-step, place-at, value-at, assign-step, assign}
 use Rattle.semantics.specs.Run.{command, Ending, done, abort, out-of-memory, stuck, Run, ended, after-command, then-command, commands-below}
 use Rattle.semantics.proofs.Tests.{and-true, and-both, enough-true, enough-false}
 use Rattle.semantics.proofs.Passed.{Passed}
-use Rattle.semantics.proofs.Steps.{Place-ok, variable-ok, deref-ok, field-ok, Value-ok, number-ok, sum-ok, read-ok, address-ok, cast-ok, malloc-ok}
+use Rattle.semantics.proofs.Steps.{Place-ok, variable-ok, deref-ok, field-ok, Value-ok, number-ok, sum-ok, read-ok, address-ok, cast-ok, malloc-ok, copy-ok}
 use Rattle.semantics.proofs.Trees.{command-ok}
 
 -- ---- the test
@@ -45,19 +45,22 @@ checked-before n p w k l s =
     let x = check-of n p w k in
     if in-bounds p w k then ok l (noted (tested x) s) else fails x (noted (tested x) s)
 
-abbrev pub deref-before : ℕ → Datum → State → Outcome Location
-deref-before n p s =
-    checked-before n p (p .value) 1 (record { at = p .value; base = p .base; end = p .end; access = followed p }) s
+abbrev pub pointed-before : ℕ → ℕ → Datum → State → Outcome Location
+pointed-before n k p s =
+    checked-before n p (p .value) k (pointed p) s
 
 abbrev pub field-before : ℕ → ℕ → ℕ → Datum → State → Outcome Location
 field-before n offset k p s =
     checked-before n p (p .value + offset) k
     (record { at = p .value + offset; base = p .value + offset; end = p .value + offset + k; access = followed p }) s
 
+abbrev pub copy-before : ℕ → ℕ → Datum → Datum → State → Outcome Datum
+copy-before n k p q s = bind (pointed-before n k p s) (λ a s′. bind (pointed-before n k q s′) (move-step k a))
+
 unfoldable mutual
   pub place-before : Place → State → Outcome Location
   place-before (Variable n i) s = ok (variable-location i) s
-  place-before (Deref n v) s = bind (value-before v s) (deref-before n)
+  place-before (Deref n v) s = bind (value-before v s) (pointed-before n 1)
   place-before (Field n offset k v) s = bind (value-before v s) (field-before n offset k)
   place-before NoPlace s = no-rule s
 
@@ -68,6 +71,7 @@ unfoldable mutual
   value-before (Address n p) s = bind (place-before p s) address-step
   value-before (Cast n keeps v) s = bind (value-before v s) (cast-step keeps)
   value-before (Malloc n v) s = bind (value-before v s) malloc-step
+  value-before (Copy n k a b) s = bind (value-before a s) (λ p s′. bind (value-before b s′) (copy-before n k p))
   value-before NoValue s = no-rule s
 
 abbrev pub command-before : Words → ℕ → State → Outcome (Unit {0})
@@ -101,7 +105,7 @@ bind-same {A} {B} {o} {o′} {f} {g} e h = ap (λ x. bind x f) e ∙ go o′
     go (no-rule s) = refl
 
 mutual
-  unfolding place-before place-at deref-step field-step
+  unfolding place-before place-at deref-step field-step copy-step
 
   place-same : {vars : ℕ} {p : Place} → Place-ok vars p → (s : State) → place-before p s ≡ place-at p s
   place-same (variable-ok h) s = refl
@@ -115,6 +119,11 @@ mutual
   value-same (address-ok p) s = bind-same (place-same p s) (λ l s′. refl)
   value-same (cast-ok v) s = bind-same (value-same v s) (λ p s′. refl)
   value-same (malloc-ok v) s = bind-same (value-same v s) (λ x s′. refl)
+  value-same (copy-ok {n = n} {k = k} some a b) s =
+      bind-same (value-same a s)
+      (λ p s′.
+      bind-same (value-same b s′)
+      (λ q s″. bind-same (checked-same n p (p .value) k _ s″ some) (λ l s₃. bind-same (checked-same n q (q .value) k _ s₃ some) (λ m s₄. refl))))
 
 command-same : {t : Words} → Passed t → (c : ℕ) → c < count t commands → (s : State) → command-before t c s ≡ command t c s
 unfolding command assign

@@ -1,10 +1,12 @@
 -- Where an event stands in a log, what holds of all checks of a log, and that its blocks lie apart.
-use Prim.Native.Nat.{ℕ, _+_, _≤_, _<_}
-use mathlib.Core.Path.{_≡_, sym, _∙_}
+use Prim.Native.Nat.{ℕ, zero, suc, _+_, _≤_, _<_}
+use mathlib.Core.Path.{_≡_, sym, ap, _∙_}
 use mathlib.Core.Logic.{_⊎_, inl, inr, ⊎-elim}
-use mathlib.Core.List.{List, [], _∷_, _++_, List·Memᴰ, List·Memᴰ·not-nil, List·Memᴰ·cases-cons}
+use mathlib.Core.List.{List, [], _∷_, _++_, List·Memᴰ, List·Memᴰ·head, List·Memᴰ·tail, List·Memᴰ·not-nil, List·Memᴰ·cases-cons}
 use native.Mathlib.Omega.{arith}
-use Rattle.semantics.specs.Rules.{Access, Bounds-check, Event, loaded, stored, allocated, tested}
+use native.Mathlib.Nat.{not-suc-le-zero}
+use native.Mathlib.Decide.{ℕ-discrete}
+use Rattle.semantics.specs.Rules.{Access, Bounds-check, Event, loaded, stored, allocated, tested, each-noted}
 use Rattle.semantics.specs.Safety.{Region, variable, block, Permitted, Allowed}
 use Rattle.semantics.specs.Log.{Blocks-apart}
 
@@ -56,6 +58,29 @@ stored-no-block w a s n q = stored-allocated q
 pub tested-no-block : (x : Bounds-check) → No-block (tested x)
 tested-no-block x s n q = tested-allocated q
 
+-- ---- the events of several words
+
+module _ (e : ℕ → Event) where
+  -- The log before them is kept, each of them is there, and nothing else is.
+  pub each-older : (k : ℕ) {log : List Event} (x : Event) → List·Memᴰ x log → List·Memᴰ x (each-noted k e log)
+  unfolding each-noted
+  each-older zero x h = h
+  each-older (suc k) x h = List·Memᴰ·tail (each-older k x h)
+
+  pub each-has : (k i : ℕ) (log : List Event) → i < k → List·Memᴰ (e i) (each-noted k e log)
+  unfolding each-noted
+  each-has zero i log less = absurd (not-suc-le-zero less)
+  each-has (suc k) i log less = go (ℕ-discrete i k) (each-has k i log)
+    where
+      go : Dec (i ≡ k) → (i < k → List·Memᴰ (e i) (each-noted k e log)) → List·Memᴰ (e i) (e k ∷ each-noted k e log)
+      go (yes q) below = List·Memᴰ·head (ap e q)
+      go (no q) below = List·Memᴰ·tail (below (omega arith))
+
+  pub each-cases : {C : Type 0} (k : ℕ) {log : List Event} (x : Event) → ((i : ℕ) → i < k → x ≡ e i → C) → (List·Memᴰ x log → C) → List·Memᴰ x (each-noted k e log) → C
+  unfolding each-noted
+  each-cases zero x new old h = old h
+  each-cases {C} (suc k) x new old h = ⊎-elim {C = C} (new k (omega arith)) (each-cases k x (λ i less. new i (omega arith)) old) (List·Memᴰ·cases-cons h)
+
 -- ---- the checks of a log, event by event
 
 -- P holds of every check of the log.
@@ -84,6 +109,13 @@ module _ {P : Bounds-check → Type 0} where
 
   pub one-block : {a n : ℕ} {log : List Event} → All-checks P log → All-checks P (allocated a n ∷ log)
   one-block = one-more (λ y q. absurd (tested-allocated q))
+
+  -- Words read or written are no checks.
+  pub each-load : (k : ℕ) (w : ℕ → ℕ) (a : Access) {log : List Event} → All-checks P log → All-checks P (each-noted k (λ i. loaded (w i) a) log)
+  each-load k w a before x = each-cases (λ i. loaded (w i) a) {C = P x} k (tested x) (λ i less q. absurd (tested-loaded q)) (before x)
+
+  pub each-store : (k : ℕ) (w : ℕ → ℕ) (a : Access) {log : List Event} → All-checks P log → All-checks P (each-noted k (λ i. stored (w i) a) log)
+  each-store k w a before x = each-cases (λ i. stored (w i) a) {C = P x} k (tested x) (λ i less q. absurd (stored-tested (sym q))) (before x)
 
 -- ---- what is allowed, event by event
 
@@ -130,6 +162,13 @@ module _ {vars : ℕ} where
   pub test-allowed : {x : Bounds-check} {log : List Event} → Allowed vars log → Allowed vars (tested x ∷ log)
   test-allowed = one-allowed (λ w a q. absurd (tested-loaded q)) (λ w a q. absurd (stored-tested (sym q)))
 
+  -- Several events, of which each is allowed after those before it.
+  pub each-allowed : (e : ℕ → Event) (k : ℕ) {log : List Event} → ((i : ℕ) → i < k → Allowed vars (each-noted i e log) → Allowed vars (e i ∷ each-noted i e log))
+      → Allowed vars log → Allowed vars (each-noted k e log)
+  unfolding each-noted
+  each-allowed e zero next h = h
+  each-allowed e (suc k) next h = next k (omega arith) (each-allowed e k (λ i less. next i (omega arith)) h)
+
 -- ---- blocks
 
 -- The blocks of a log lie one after the other above the variables, and the newest ends at U.
@@ -137,6 +176,11 @@ pub data Stacked (vars : ℕ) : List Event → ℕ → Type 0 where
   none : Stacked vars [] (1 + vars)
   beside : {e : Event} {log : List Event} {u : ℕ} → No-block e → Stacked vars log u → Stacked vars (e ∷ log) u
   alloc : {n : ℕ} {log : List Event} {u : ℕ} → 0 < n → Stacked vars log u → Stacked vars (allocated u n ∷ log) (u + n)
+
+pub each-beside : {vars u : ℕ} (e : ℕ → Event) {log : List Event} (k : ℕ) → ((i : ℕ) → No-block (e i)) → Stacked vars log u → Stacked vars (each-noted k e log) u
+unfolding each-noted
+each-beside e zero apart st = st
+each-beside e (suc k) apart st = beside (apart k) (each-beside e k apart st)
 
 pub stacked-low : {vars u : ℕ} {log : List Event} → Stacked vars log u → vars < u
 stacked-low none = omega arith

@@ -7,16 +7,16 @@ use mathlib.Core.List.{List, _∷_, List·Memᴰ·tail}
 use native.Mathlib.Omega.{arith}
 use lib.Dec.{leb, eqb}
 use lib.ListN.{length}
-use Rattle.semantics.specs.Words.{Words, if_then_else_}
+use Rattle.semantics.specs.Words.{Words, all-below, if_then_else_}
 use Rattle.semantics.specs.Registers.{register-count, register-variable, register-length, register-words}
 use Rattle.semantics.specs.Table.{is-pointer, node-type}
 use Rattle.semantics.specs.Check.{command-place, command-value}
-use Rattle.semantics.specs.Syntax.{place-of, value-of, Place, Variable, Deref, Field, NoPlace, Value, Number, Sum, Read, Address, Cast, Malloc, NoValue}
-use Rattle.semantics.specs.Rules.{Datum, unbounded, block-pointer, Location, Bounds-check, Event, loaded, tested, State, noted, Outcome, ok, fails, no-room, no-rule, bind, checked, deref-step, field-step, touchable, read-step, cast-step, with-block, malloc-step, place-at, value-at, assign-step, assign}
+use Rattle.semantics.specs.Syntax.{place-of, value-of, Place, Variable, Deref, Field, NoPlace, Value, Number, Sum, Read, Address, Cast, Malloc, Copy, NoValue}
+use Rattle.semantics.specs.Rules.{Datum, unbounded, block-pointer, Location, Bounds-check, Event, loaded, tested, State, noted, Outcome, ok, fails, no-room, no-rule, bind, checked, deref-step, field-step, touchable, read-step, cast-step, with-block, malloc-step, move-step, copy-step, place-at, value-at, assign-step, assign}
 use Rattle.semantics.specs.Run.{cleared, with-register, registers-below, begin, command, Ending, done, abort, out-of-memory, stuck, ended, after-command, then-command, commands-below}
 use Rattle.semantics.specs.Explain.{Passed, All-passed, First-not-passed}
 use Rattle.semantics.proofs.Tests.{Check-made, check-passed, check-missed, check-made}
-use Rattle.semantics.proofs.Blocks.{All-checks, Asks, no-checks, one-check, one-load, one-store, one-block}
+use Rattle.semantics.proofs.Blocks.{All-checks, Asks, no-checks, one-check, one-load, one-store, one-block, each-load, each-store}
 use Rattle.semantics.proofs.Places.{log-kept}
 use Rattle.semantics.proofs.Fails.{ok-not, no-room-not, no-rule-not}
 
@@ -89,6 +89,12 @@ malloc-tested x s = go (eqb (x .value) 0) (leb (s .unused + x .value) (length (s
     go false true = tested-ok one-block
     go false false = tested-no-room (λ h. h)
 
+copy-tested : (n k : ℕ) (p q : Datum) (s : State) → Tested (s .log) (copy-step n k p q s)
+unfolding copy-step move-step
+copy-tested n k p q s =
+    bind-tested (checked-tested n p (p .value) k _ s)
+    (λ a s′. bind-tested (checked-tested n q (q .value) k _ s′) (λ b s″. touched (all-below k _) _ s″ _ (λ h. each-store k (λ i. a .at + i) (a .access) (each-load k (λ i. b .at + i) (b .access) h))))
+
 mutual
   unfolding place-at deref-step field-step read-step
 
@@ -106,6 +112,7 @@ mutual
   value-tested (Address n p) s = bind-tested (place-tested p s) (λ l s′. tested-ok (λ h. h))
   value-tested (Cast n keeps v) s = bind-tested (value-tested v s) (cast-tested keeps)
   value-tested (Malloc n v) s = bind-tested (value-tested v s) malloc-tested
+  value-tested (Copy n k a b) s = bind-tested (value-tested a s) (λ p s′. bind-tested (value-tested b s′) (copy-tested n k p))
   value-tested NoValue s = tested-no-rule (λ h. h)
 
 pub command-tested : (t : Words) (c : ℕ) (s : State) → Tested (s .log) (command t c s)

@@ -6,8 +6,8 @@ use mathlib.Core.Path.{_≡_, refl, ap, ap₂}
 use mathlib.Core.List.{_++_, List·Memᴰ, List·Memᴰ·head, List·Memᴰ·tail}
 use lib.ListN.{getD}
 use Rattle.semantics.specs.Words.{Words, word}
-use Rattle.semantics.specs.Table.{pointers, count, is-pointer, target, pointed-record, entry-type, entry-below, field-type, field-offset, field-count, Kind, variable, deref, field, constant, sum, read, address, cast, size, malloc, unknown, operand-a, operand-b, node-kind, node-a, node-b, child, children, type-by-kind, type-rule, types-below, node-type}
-use Rattle.semantics.specs.Syntax.{Tree, senseless, as-place, as-value, place, value, Deref, Field, Sum, Read, Address, Cast, Malloc, step-of, tree-by-kind, tree-rule, trees-below, tree-of}
+use Rattle.semantics.specs.Table.{pointers, count, is-pointer, target, pointed-record, entry-type, entry-below, field-type, field-offset, field-count, Kind, variable, deref, field, constant, sum, read, address, cast, size, malloc, copy, unknown, size-of, operand-a, operand-b, node-kind, node-a, node-b, child, children, type-by-kind, type-rule, types-below, node-type}
+use Rattle.semantics.specs.Syntax.{Tree, senseless, as-place, as-value, place, value, Deref, Field, Sum, Read, Address, Cast, Malloc, Copy, step-of, tree-by-kind, tree-rule, trees-below, tree-of}
 use Rattle.semantics.proofs.Trees.{types-at, trees-at}
 
 -- Each child of node n is a node before it.
@@ -31,6 +31,7 @@ type-equation t n before = go (node-kind t n) (node-a t n) (node-b t n) before
     go cast a b h = refl
     go size a b h = refl
     go malloc a b h = refl
+    go copy a b h = refl
     go unknown a b h = refl
 
 -- The tree of a node is made of the trees of its children.
@@ -38,9 +39,11 @@ pub tree-equation : (t : Words) (n : ℕ) → Children-before t n → tree-of t 
 unfolding tree-of tree-rule children
 tree-equation t n before = go (node-kind t n) (node-a t n) (node-b t n) before
   where
-    -- One child, or two.
     one : {A : Type 0} (f : Tree → A) (x : ℕ) → x < n → f (getD (trees-below t n) x senseless) ≡ f (tree-of t x)
     one f x less = ap f (trees-at t n x less)
+
+    two : {A : Type 0} (f : Tree → Tree → A) (x y : ℕ) → x < n → y < n → f (getD (trees-below t n) x senseless) (getD (trees-below t n) y senseless) ≡ f (tree-of t x) (tree-of t y)
+    two f x y less-x less-y = ap₂ f (trees-at t n x less-x) (trees-at t n y less-y)
 
     go : (k : Kind) (a b : ℕ) → ((x : ℕ) → List·Memᴰ x (child (operand-a k) a ++ child (operand-b k) b) → x < n)
         → tree-by-kind t n k a b (λ x. getD (trees-below t n) x senseless) ≡ tree-by-kind t n k a b (tree-of t)
@@ -50,10 +53,12 @@ tree-equation t n before = go (node-kind t n) (node-a t n) (node-b t n) before
         one (λ y. place (Field n (field-offset t (pointed-record t (node-type t a)) b) (field-count t (pointed-record t (node-type t a)) b) (as-value y))) a (h a (List·Memᴰ·head refl))
     go constant a b h = refl
     go sum a b h =
-        ap₂ (λ y z. value (Sum n (step-of t (node-type t a)) (as-value y) (as-value z))) (trees-at t n a (h a (List·Memᴰ·head refl))) (trees-at t n b (h b (List·Memᴰ·tail (List·Memᴰ·head refl))))
+        two (λ y z. value (Sum n (step-of t (node-type t a)) (as-value y) (as-value z))) a b (h a (List·Memᴰ·head refl)) (h b (List·Memᴰ·tail (List·Memᴰ·head refl)))
     go read a b h = one (λ y. value (Read n (is-pointer (node-type t n)) (as-place y))) a (h a (List·Memᴰ·head refl))
     go address a b h = one (λ y. value (Address n (as-place y))) a (h a (List·Memᴰ·head refl))
     go cast a b h = one (λ y. value (Cast n (is-pointer (node-type t a) && is-pointer b) (as-value y))) a (h a (List·Memᴰ·head refl))
     go size a b h = refl
     go malloc a b h = one (λ y. value (Malloc n (as-value y))) a (h a (List·Memᴰ·head refl))
+    go copy a b h =
+        two (λ y z. value (Copy n (size-of t (target t (node-type t a))) (as-value y) (as-value z))) a b (h a (List·Memᴰ·head refl)) (h b (List·Memᴰ·tail (List·Memᴰ·head refl)))
     go unknown a b h = refl

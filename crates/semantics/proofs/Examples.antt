@@ -1,27 +1,29 @@
 -- Each table of examples computes to what it says: those that document 01 prints and that requests 1 and 2 ask for (specs/Examples.antt), and
--- those that hold each sentence (specs/RefusalExamples.antt, CallExamples.antt, RunExamples.antt, TreeExamples.antt, ExplainExamples.antt, LeftExamples.antt).
+-- those that hold each sentence (specs/RefusalExamples.antt, CallExamples.antt, RunExamples.antt, TreeExamples.antt, ExplainExamples.antt, LeftExamples.antt,
+-- CopyExamples.antt).
 use mathlib.Core.Path.{_≡_, refl}
 use mathlib.Core.List.{[], _∷_, map}
-use Rattle.semantics.specs.Words.{zeroed, sum-below, any-below, seen-before, least-below, grow}
+use Rattle.semantics.specs.Words.{zeroed, words-from, moved, sum-below, any-below, all-below, seen-before, least-below, grow}
 use Rattle.semantics.specs.Table.{count-place, count, item-place, item, is-pointer, known-type, known-target, target, points-to-type, points-to-record, pointed-record, entry-below, field-total, first-field, field-type, field-count, field-offset, size-of, kind-of, node-kind, children, type-rule, types-below, node-type}
 use Rattle.semantics.specs.Registers.{register-place, register-start}
 use Rattle.semantics.specs.Check.{_or-else_, require, each, section-fault, words-over, record-fault, field-sum-fault, field-fault, pointer-fault, variable-fault, is-child, deeper, node-fault, command-fault, uses, use-fault, check, lengths-fit, input-fits, input-fault, arguments-fault, extent-fault, names-pointer, name-fault, room-fault, registers-fault, call-fault}
 use Rattle.semantics.specs.Syntax.{step-of, tree-rule, trees-below, tree-of, place-of, value-of}
-use Rattle.semantics.specs.Rules.{words-left, enough-left, checked, deref-step, field-step, touchable, read-step, malloc-step, place-at, assign-step, assign}
+use Rattle.semantics.specs.Rules.{words-left, enough-left, checked, deref-step, field-step, touchable, read-step, malloc-step, each-noted, move-step, copy-step, place-at, value-at, assign-step, assign}
 use Rattle.semantics.specs.Run.{cleared, with-register, registers-below, begin, command, commands-below, run, call}
 use Rattle.semantics.specs.Explain.{without-bounds, reason-of, block-start, first-word, newest-cause, explain}
 use Rattle.semantics.specs.ExampleTables.{judged, answered, Example, observed}
 use Rattle.semantics.specs.Examples.{verdicts, refusals, runs, refused-lists, register-runs, record-runs}
-use Rattle.semantics.specs.RefusalExamples.{sections, declarations, operands, node-types, commands-and-uses}
+use Rattle.semantics.specs.RefusalExamples.{sections, declarations, operands, node-types, copy-types, commands-and-uses}
 use Rattle.semantics.specs.CallExamples.{arguments, register-lists, unequal-lists}
 use Rattle.semantics.specs.RunExamples.{memory-runs, order-runs, place-runs, value-runs, malloc-runs, touched, touches}
 use Rattle.semantics.specs.ExplainExamples.{Telling, tell, reasons, nodes-told, first-words, explained, whole-calls, logged, logs, reasoned, bare-checks, some-words, starts, at-ending, endings, at-endings}
 use Rattle.semantics.specs.LeftExamples.{counted, numbers-left, left-runs}
-use Rattle.semantics.specs.TreeExamples.{every-kind, roots, trees, small, worked, values, registered, wild, wild-runs, measured, depths}
+use Rattle.semantics.specs.CopyExamples.{shifted, shifts, copy-runs, overlaps, copy-orders, copies-told}
+use Rattle.semantics.specs.TreeExamples.{every-kind, roots, trees, small, worked, values, copies, copies-outcomes, stepped, steps, registered, wild, wild-runs, measured, depths}
 
 -- To unfold this is to unfold every definition that a call comes down to.
 computed : Example → Example
-unfolding observed zeroed sum-below any-below seen-before least-below grow count-place count item-place item is-pointer known-type known-target target points-to-type points-to-record pointed-record entry-below field-total first-field field-type field-count field-offset size-of kind-of node-kind children type-rule types-below node-type _or-else_ require each section-fault words-over record-fault field-sum-fault field-fault pointer-fault variable-fault is-child deeper node-fault command-fault uses use-fault check lengths-fit input-fits input-fault arguments-fault register-place register-start extent-fault names-pointer name-fault room-fault registers-fault call-fault step-of tree-rule trees-below tree-of place-of value-of words-left enough-left checked deref-step field-step touchable read-step malloc-step place-at assign-step assign cleared registers-below begin command commands-below run call
+unfolding observed zeroed words-from moved sum-below any-below all-below seen-before least-below grow count-place count item-place item is-pointer known-type known-target target points-to-type points-to-record pointed-record entry-below field-total first-field field-type field-count field-offset size-of kind-of node-kind children type-rule types-below node-type _or-else_ require each section-fault words-over record-fault field-sum-fault field-fault pointer-fault variable-fault is-child deeper node-fault command-fault uses use-fault check lengths-fit input-fits input-fault arguments-fault register-place register-start extent-fault names-pointer name-fault room-fault registers-fault call-fault step-of tree-rule trees-below tree-of place-of value-of words-left enough-left checked deref-step field-step touchable read-step malloc-step each-noted move-step copy-step place-at assign-step assign cleared registers-below begin command commands-below run call
 computed x = observed x
 
 -- ---- Document 01's own, registers, and steps along records
@@ -67,6 +69,10 @@ operands-are-judged-so = refl
 pub node-types-are-judged-so : map judged node-types ≡ node-types
 unfolding computed judged node-types
 node-types-are-judged-so = refl
+
+pub copy-types-are-judged-so : map judged copy-types ≡ copy-types
+unfolding computed judged copy-types
+copy-types-are-judged-so = refl
 
 pub commands-and-uses-are-judged-so : map judged commands-and-uses ≡ commands-and-uses
 unfolding computed judged commands-and-uses
@@ -124,6 +130,14 @@ pub values-are-worked-out-so : map worked values ≡ values
 unfolding computed worked values
 values-are-worked-out-so = refl
 
+pub copies-come-out-so : map (λ v. value-at v small) copies ≡ copies-outcomes
+unfolding computed copies-outcomes
+copies-come-out-so = refl
+
+pub steps-come-out-so : map stepped steps ≡ steps
+unfolding computed stepped steps
+steps-come-out-so = refl
+
 pub wild-runs-end-so : map wild wild-runs ≡ wild-runs
 unfolding computed wild wild-runs
 wild-runs-end-so = refl
@@ -180,3 +194,25 @@ blocks-start-so = refl
 pub endings-are-told-so : map at-ending endings ≡ at-endings
 unfolding accounted at-ending
 endings-are-told-so = refl
+
+-- ---- Whole records copied
+
+pub lists-are-shifted-so : map shifted shifts ≡ shifts
+unfolding computed shifted shifts
+lists-are-shifted-so = refl
+
+pub copy-runs-end-so : map observed copy-runs ≡ copy-runs
+unfolding computed copy-runs
+copy-runs-end-so = refl
+
+pub overlaps-end-so : map observed overlaps ≡ overlaps
+unfolding computed overlaps
+overlaps-end-so = refl
+
+pub copy-orders-end-so : map observed copy-orders ≡ copy-orders
+unfolding computed copy-orders
+copy-orders-end-so = refl
+
+pub copies-are-told-so : map tell copies-told ≡ copies-told
+unfolding accounted computed copies-told
+copies-are-told-so = refl

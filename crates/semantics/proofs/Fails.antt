@@ -1,16 +1,17 @@
 -- By which check a tree or a command fails: one of its own that is not passed, or that of the child that failed.
 use Prim.Native.Nat.{ℕ, _+_}
 use mathlib.Core.Bool.{Bool, true, false}
-use mathlib.Core.Path.{_≡_, refl, ap}
+use mathlib.Core.Path.{_≡_, refl}
 use native.Mathlib.Omega.{arith}
+use native.Mathlib.Nat.{add-zero}
 use lib.Dec.{leb, eqb}
 use lib.ListN.{length}
-use Rattle.semantics.specs.Words.{if_then_else_}
-use Rattle.semantics.specs.Syntax.{Place, Variable, Deref, Field, NoPlace, Value, Number, Sum, Read, Address, Cast, Malloc, NoValue}
-use Rattle.semantics.specs.Rules.{Datum, unbounded, block-pointer, Location, Bounds-check, tested, State, noted, Outcome, ok, fails, no-room, no-rule, bind, check-of, checked, deref-step, field-step, touchable, read-step, sum-step, cast-step, with-block, malloc-step, place-at, value-at, assign-step, assign}
-use Rattle.semantics.specs.Log.{Own-check, Place-fails, deref-check, deref-child, field-check, field-child, Value-fails, sum-left, sum-right, read-place, address-place, cast-child, malloc-child, Assign-fails, in-place, in-value}
+use Rattle.semantics.specs.Words.{all-below, if_then_else_}
+use Rattle.semantics.specs.Syntax.{Place, Variable, Deref, Field, NoPlace, Value, Number, Sum, Read, Address, Cast, Malloc, Copy, NoValue}
+use Rattle.semantics.specs.Rules.{Datum, unbounded, block-pointer, Location, Bounds-check, tested, State, noted, Outcome, ok, fails, no-room, no-rule, bind, check-of, checked, pointed-step, deref-step, field-step, touchable, read-step, sum-step, cast-step, with-block, malloc-step, move-step, copy-step, place-at, value-at, assign-step, assign}
+use Rattle.semantics.specs.Log.{Operands, Misses, Place-fails, deref-check, deref-child, field-check, field-child, Value-fails, sum-left, sum-right, read-place, address-place, cast-child, malloc-child, copy-left, copy-right, copy-to, copy-from, Assign-fails, in-place, in-value}
 use Rattle.semantics.proofs.Tests.{Check-made, check-passed, check-missed, check-made}
-use Rattle.semantics.proofs.Places.{one-event}
+use Rattle.semantics.proofs.Places.{one-event, checked-ok}
 
 -- ---- outcomes
 
@@ -65,17 +66,28 @@ malloc-not d s {x} {s′} e = go (eqb (d .value) 0) (leb (s .unused + d .value) 
 
 -- ---- a check that fails
 
-own-check : (n : ℕ) (v : Value) (offset k : ℕ) (s : State) (p : Datum) (s₁ : State) (w : ℕ) (l : Location) {x : Bounds-check} {s′ : State} → w ≡ p .value + offset
-    → value-at v s ≡ ok p s₁ → checked n p w k l s₁ ≡ fails x s′ → Own-check n v offset k s x s′
-own-check n v offset k s p s₁ w l {x} {s′} at child e = go (check-made n p w k l s₁) e
+check-misses : (n : ℕ) (p : Datum) (w k : ℕ) (l : Location) (s : State) {x : Bounds-check} {s′ : State} → checked n p w k l s ≡ fails x s′ → Misses n p w k s x s′
+check-misses n p w k l s {x} {s′} e = go (check-made n p w k l s) e
   where
-    go : {o : Outcome Location} → Check-made n p w k l s₁ o → o ≡ fails x s′ → Own-check n v offset k s x s′
+    go : {o : Outcome Location} → Check-made n p w k l s o → o ≡ fails x s′ → Misses n p w k s x s′
     go (check-passed inside) q = absurd (ok-not q)
     go (check-missed miss) q =
         let same : check-of n p w k ≡ x = cc in
-        let state : noted (tested (check-of n p w k)) s₁ ≡ s′ = cc in
-        rw (← state, ← same)
-        (record { pointer = p; s₁ = s₁; child = child; is = ap (λ i. check-of n p i k) at; not-passed = miss; event = one-event _ s₁ })
+        let state : noted (tested (check-of n p w k)) s ≡ s′ = cc in
+        rw (← state, ← same) (record { is = refl; not-passed = miss; event = one-event _ s })
+
+-- Neither check of a copy is made before both operands are worked out, and the second one only where the first is passed.
+failing-copies : {n k : ℕ} {a b : Value} {s s₁ s′ : State} {p q : Datum} {x : Bounds-check} → Operands a b s p q s₁ → copy-step n k p q s₁ ≡ fails x s′
+    → Value-fails s x s′ (Copy n k a b)
+unfolding copy-step move-step
+failing-copies {n} {k} {a} {b} {s} {s₁} {s′} {p} {q} {x} operands e = go (either (pointed-step n k p s₁) _ e)
+  where
+    go : Either-fails (pointed-step n k p s₁) (λ l s₂. bind (pointed-step n k q s₂) (move-step k l)) x s′ → Value-fails s x s′ (Copy n k a b)
+    go (first h) = copy-to p q s₁ operands (check-misses n p (p .value) k _ s₁ h)
+    go (second l s₂ h r) =
+        let to = checked-ok n p (p .value) k _ s₁ h in
+        copy-from p q s₁ s₂ operands (rw (to .state) at (to .passes))
+        (check-misses n q (q .value) k _ s₂ (only-first (pointed-step n k q s₂) _ (λ m s₃. touched-not (all-below k _) _ s₃ _) r))
 
 -- ---- trees
 
@@ -86,12 +98,12 @@ failing-places (Deref n v) s x s′ e = go (either (value-at v s) _ e)
   where
     go : Either-fails (value-at v s) (deref-step n) x s′ → Place-fails s x s′ (Deref n v)
     go (first q) = deref-child q
-    go (second p s₁ q r) = deref-check (own-check n v 0 1 s p s₁ (p .value) _ (omega arith) q r)
+    go (second p s₁ q r) = deref-check {n = n} (record { pointer = p; s₁ = s₁; child = q; check = rw (add-zero (p .value)) (check-misses n p (p .value) 1 _ s₁ r) })
 failing-places (Field n offset k v) s x s′ e = go (either (value-at v s) _ e)
   where
     go : Either-fails (value-at v s) (field-step n offset k) x s′ → Place-fails s x s′ (Field n offset k v)
     go (first q) = field-child q
-    go (second p s₁ q r) = field-check (own-check n v offset k s p s₁ (p .value + offset) _ refl q r)
+    go (second p s₁ q r) = field-check (record { pointer = p; s₁ = s₁; child = q; check = check-misses n p (p .value + offset) k _ s₁ r })
 failing-places NoPlace s x s′ e = absurd (no-rule-not e)
 
 pub failing-values : (v : Value) (s : State) (x : Bounds-check) (s′ : State) → value-at v s ≡ fails x s′ → Value-fails s x s′ v
@@ -106,6 +118,15 @@ failing-values (Read n pointer p) s x s′ e = read-place (only-first (place-at 
 failing-values (Address n p) s x s′ e = address-place (only-first (place-at p s) _ (λ l s₁ never. ok-not never) e)
 failing-values (Cast n keeps v) s x s′ e = cast-child (only-first (value-at v s) _ (λ d s₁. cast-not keeps d s₁) e)
 failing-values (Malloc n v) s x s′ e = malloc-child (only-first (value-at v s) _ (λ d s₁. malloc-not d s₁) e)
+failing-values (Copy n k a b) s x s′ e = go (either (value-at a s) _ e)
+  where
+    go : Either-fails (value-at a s) (λ p s₁. bind (value-at b s₁) (copy-step n k p)) x s′ → Value-fails s x s′ (Copy n k a b)
+    go (first q) = copy-left q
+    go (second p s₁ q r) = next p s₁ q (either (value-at b s₁) (copy-step n k p) r)
+      where
+        next : (p : Datum) (s₁ : State) → value-at a s ≡ ok p s₁ → Either-fails (value-at b s₁) (copy-step n k p) x s′ → Value-fails s x s′ (Copy n k a b)
+        next p s₁ h (first r) = copy-right p s₁ h r
+        next p s₁ h (second q s₂ r c) = failing-copies (record { s₁ = s₁; first = h; second = r }) c
 failing-values NoValue s x s′ e = absurd (no-rule-not e)
 
 pub failing-commands : (pointer : Bool) (p : Place) (v : Value) (s : State) (x : Bounds-check) (s′ : State) → assign pointer p v s ≡ fails x s′ → Assign-fails p v s x s′

@@ -6,11 +6,11 @@ use native.Mathlib.Omega.{arith}
 use native.Mathlib.Nat.{not-suc-le-zero}
 use native.Mathlib.Decide.{ℕ-discrete}
 use lib.ListN.{getD}
-use Rattle.semantics.specs.Words.{Words, word, if_then_else_}
-use Rattle.semantics.specs.Table.{nodes, count, is-pointer, Kind, variable, deref, field, constant, sum, read, address, cast, size, malloc, unknown, value, sort-of, node-kind, node-a, node-b, type-by-kind, type-rule, types-below, node-type}
+use Rattle.semantics.specs.Words.{Words, word, all-below, if_then_else_}
+use Rattle.semantics.specs.Table.{nodes, count, is-pointer, Kind, variable, deref, field, constant, sum, read, address, cast, size, malloc, copy, unknown, value, sort-of, node-kind, node-a, node-b, type-by-kind, type-rule, types-below, node-type}
 use Rattle.semantics.specs.Check.{same-sort, is-child}
-use Rattle.semantics.specs.Syntax.{Place, Value, Number, Sum, Read, Cast, senseless, as-value, tree-by-kind, tree-rule, trees-below, tree-of, value-of}
-use Rattle.semantics.specs.Rules.{Datum, unbounded, Location, loaded, Bounds-check, State, noted, Outcome, ok, fails, no-room, no-rule, bind, touchable, contents, read-step, sum-step, cast-step, place-at, value-at}
+use Rattle.semantics.specs.Syntax.{Place, Value, Number, Sum, Read, Cast, Copy, senseless, as-value, tree-by-kind, tree-rule, trees-below, tree-of, value-of}
+use Rattle.semantics.specs.Rules.{Datum, unbounded, Location, loaded, Bounds-check, State, noted, Outcome, ok, fails, no-room, no-rule, bind, touchable, contents, pointed-step, read-step, sum-step, cast-step, with-copy, move-step, copy-step, place-at, value-at}
 use Rattle.semantics.proofs.Passed.{require-passes, Passed}
 use Rattle.semantics.proofs.Trees.{Node-ok, node-ok, is-child-true, types-at, trees-at}
 
@@ -43,6 +43,14 @@ read-unbounded l s = go (touchable s (l .at))
     go true = unbounded-ok
     go false = unbounded-no-rule
 
+copy-unbounded : (n k : ℕ) (p q : Datum) (s : State) → Unbounded (copy-step n k p q s)
+unfolding copy-step move-step
+copy-unbounded n k p q s = bind-unbounded (pointed-step n k p s) _ (λ a s′. bind-unbounded (pointed-step n k q s′) (move-step k a) (λ b s″. go (all-below k _) a b s″))
+  where
+    go : (x : Bool) (a b : Location) (s″ : State) → Unbounded (if x then ok (unbounded k) (with-copy k a b s″) else no-rule s″)
+    go true a b s″ = unbounded-ok
+    go false a b s″ = unbounded-no-rule
+
 -- A sum has the bounds of its left operand.
 sum-unbounded : {o : Outcome Datum} (step : ℕ) (right : State → Outcome Datum) → Unbounded o
     → Unbounded (bind o (λ p s. bind (right s) (sum-step step p)))
@@ -59,6 +67,7 @@ data Int-value : Value → Type 0 where
   sum-int : {n step : ℕ} {a b : Value} → Int-value a → Int-value (Sum n step a b)
   read-int : {n : ℕ} {p : Place} → Int-value (Read n false p)
   cast-int : {n : ℕ} {v : Value} → Int-value (Cast n false v)
+  copy-int : {n k : ℕ} {a b : Value} → Int-value (Copy n k a b)
 
 int-unbounded : {v : Value} → Int-value v → (s : State) → Unbounded (value-at v s)
 unfolding value-at
@@ -66,6 +75,8 @@ int-unbounded number-int s = unbounded-ok
 int-unbounded (sum-int {step = k} {b = b} a) s = sum-unbounded k (value-at b) (int-unbounded a s)
 int-unbounded (read-int {p = p}) s = bind-unbounded (place-at p s) (read-step false) read-unbounded
 int-unbounded (cast-int {v = v}) s = bind-unbounded (value-at v s) (cast-step false) (λ p s′. unbounded-ok)
+int-unbounded (copy-int {n = n} {k = k} {a = a} {b = b}) s =
+    bind-unbounded (value-at a s) _ (λ p s′. bind-unbounded (value-at b s′) (copy-step n k p) (copy-unbounded n k p))
 
 -- ---- nodes
 
@@ -93,6 +104,7 @@ module _ {t : Words} (n : ℕ) (int : node-type t n ≡ 0) (below : (i : ℕ) �
   int-by-kind cast a b g q e = rw (e, int-no-pointer (is-pointer (node-type t a))) cast-int
   int-by-kind size a b g q e = number-int
   int-by-kind malloc a b g q e = absurd (omega arith)
+  int-by-kind copy a b g q e = copy-int
   int-by-kind unknown a b g q e = absurd (false≢true (ap (same-sort value) q))
 
 int-nodes : {t : Words} → Passed t → (n : ℕ) → n ≤ count t nodes → (i : ℕ) → i < n → Int-node t i

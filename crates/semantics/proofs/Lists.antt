@@ -5,13 +5,13 @@ use mathlib.Core.Path.{_≡_, refl, sym, ap, _∙_}
 use mathlib.Core.Logic.{_⊎_, inl, inr}
 use mathlib.Core.List.{List, [], _∷_, _++_}
 use native.Mathlib.Omega.{arith}
-use native.Mathlib.Nat.{not-suc-le-zero}
+use native.Mathlib.Nat.{not-suc-le-zero, add-zero}
 use native.Mathlib.Decide.{ℕ-discrete}
 use borrow.Author.Tests.{ltb-true, lt-ltb, le-ltb}
 use lib.Dec.{ltb}
-use lib.ListN.{length, getD, replicate, set, length-append, List·getD-append}
-use lib.Seq.{getD-at, getD-set-other, set-getD, sets}
-use Rattle.semantics.specs.Words.{Words, word, zeroed, if_then_else_, sum-below, any-below, least-below, grow}
+use lib.ListN.{length, getD, replicate, set, length-set, length-append, length-replicate, List·getD-append}
+use lib.Seq.{getD-at, getD-set-same, getD-set-other, set-getD, sets, length-sets}
+use Rattle.semantics.specs.Words.{Words, word, zeroed, words-from, moved, if_then_else_, sum-below, any-below, all-below, least-below, grow}
 
 module _ {A : Type 0} (f : ℕ → List A → A) where
   pub length-grow : (n : ℕ) → length (grow f n) ≡ n
@@ -77,6 +77,68 @@ any-least (suc n) p = go (any-below n p) (ltb (least-below n p) n) refl (p n) (a
     go true false q c e = absurd (false≢true (sym e))
     go false true q c e = absurd (false≢true e)
 
+pub all-true : (n : ℕ) (p : ℕ → Bool) → ((i : ℕ) → i < n → p i ≡ true) → all-below n p ≡ true
+unfolding all-below
+all-true zero p h = refl
+all-true (suc n) p h = rw (all-true n p (λ i less. h i (omega arith)), h n (omega arith)) refl
+
+-- Words stored from index i on stand there, as far as the list goes; all others are as they were.
+pub sets-outside : (l : Words) (i : ℕ) (xs : Words) (w : ℕ) → (w < i) ⊎ (i + length xs ≤ w) → word (sets l i xs) w ≡ word l w
+sets-outside l i [] w h = refl
+sets-outside l i (x ∷ xs) w h = sets-outside (set l i x) (suc i) xs w (further h) ∙ getD-set-other l i w x 0 (λ e. elsewhere e h)
+  where
+    further : (w < i) ⊎ (i + suc (length xs) ≤ w) → (w < suc i) ⊎ (suc i + length xs ≤ w)
+    further (inl k) = inl (omega arith)
+    further (inr k) = inr (omega arith)
+
+    elsewhere : w ≡ i → (w < i) ⊎ (i + suc (length xs) ≤ w) → ⊥
+    elsewhere e (inl k) = omega arith
+    elsewhere e (inr k) = omega arith
+
+sets-inside : (l : Words) (i : ℕ) (xs : Words) (j : ℕ) → j < length xs → i + j < length l → word (sets l i xs) (i + j) ≡ word xs j
+sets-inside l i [] j less fits = absurd (not-suc-le-zero less)
+sets-inside l i (x ∷ xs) zero less fits =
+    let at : i + 0 ≡ i = omega arith in
+    rw at (sets-outside (set l i x) (suc i) xs i (inl (omega arith)) ∙ getD-set-same l i x 0 (omega arith))
+sets-inside l i (x ∷ xs) (suc j) less fits =
+    let at : i + suc j ≡ suc i + j = omega arith in
+    rw at (sets-inside (set l i x) (suc i) xs j (omega arith) (omega (arith, length-set l i x)))
+
+pub from-length : (l : Words) (from n : ℕ) → length (words-from l from n) ≡ n
+unfolding words-from
+from-length l from zero = refl
+from-length l from (suc n) = ap suc (from-length l (suc from) n)
+
+from-word : (l : Words) (from n i : ℕ) → i < n → word (words-from l from n) i ≡ word l (from + i)
+unfolding words-from
+from-word l from zero i less = absurd (not-suc-le-zero less)
+from-word l from (suc n) zero less = rw (add-zero from) refl
+from-word l from (suc n) (suc i) less =
+    let at : from + suc i ≡ suc from + i = omega arith in
+    rw at (from-word l (suc from) n i (omega arith))
+
+-- Where words were moved to stands what stood where they came from; all other words are as they were.
+pub moved-length : (l : Words) (to from n : ℕ) → length (moved l to from n) ≡ length l
+unfolding moved
+moved-length l to from n = length-sets l to (words-from l from n)
+
+pub moved-nil : (to from n : ℕ) → moved [] to from n ≡ []
+unfolding moved
+moved-nil to from n = none to (words-from [] from n)
+  where
+    none : (i : ℕ) (xs : Words) → sets {A = ℕ} [] i xs ≡ []
+    none i [] = refl
+    none i (x ∷ xs) = none (suc i) xs
+
+pub moved-outside : (l : Words) (to from n w : ℕ) → (w < to) ⊎ (to + n ≤ w) → word (moved l to from n) w ≡ word l w
+unfolding moved
+moved-outside l to from n w h = sets-outside l to (words-from l from n) w (rw (from-length l from n) h)
+
+pub moved-inside : (l : Words) (to from n i : ℕ) → i < n → to + i < length l → word (moved l to from n) (to + i) ≡ word l (from + i)
+unfolding moved
+moved-inside l to from n i less fits =
+    sets-inside l to (words-from l from n) i (rw (from-length l from n) less) fits ∙ from-word l from n i less
+
 -- Clearing clear words changes nothing.
 pub zeroed-clear : (l : Words) (from n : ℕ) → ((w : ℕ) → from ≤ w → word l w ≡ 0) → zeroed l from n ≡ l
 unfolding zeroed
@@ -88,17 +150,7 @@ zeroed-clear l from (suc n) h =
 -- Words outside the cleared ones are as they were; those inside are 0, also past the end of the list.
 pub zeroed-outside : (l : Words) (from n w : ℕ) → (w < from) ⊎ (from + n ≤ w) → word (zeroed l from n) w ≡ word l w
 unfolding zeroed
-zeroed-outside l from zero w h = refl
-zeroed-outside l from (suc n) w h =
-    zeroed-outside (set l from 0) (suc from) n w (further h) ∙ getD-set-other l from w 0 0 (λ e. elsewhere e h)
-  where
-    further : (w < from) ⊎ (from + suc n ≤ w) → (w < suc from) ⊎ (suc from + n ≤ w)
-    further (inl k) = inl (omega arith)
-    further (inr k) = inr (omega arith)
-
-    elsewhere : w ≡ from → (w < from) ⊎ (from + suc n ≤ w) → ⊥
-    elsewhere e (inl k) = omega arith
-    elsewhere e (inr k) = omega arith
+zeroed-outside l from n w h = sets-outside l from (replicate n 0) w (rw (length-replicate {A = ℕ} n 0) h)
 
 pub zeroed-inside : (l : Words) (from n w : ℕ) → from ≤ w → w < from + n → word (zeroed l from n) w ≡ 0
 unfolding zeroed

@@ -10,7 +10,7 @@ use borrow.Author.Tests.{ltb-true, leb-true, eqb-true, lt-ltb}
 use lib.Dec.{leb, ltb, eqb}
 use lib.ListN.{length}
 use Rattle.semantics.specs.Words.{Words, word, sum-below}
-use Rattle.semantics.specs.Table.{records, fields, pointers, variables, nodes, commands, entry-words, limits, count-place, count, item, entry-type, known-type, known-target, target, points-to-type, points-to-record, pointed-record, field-total, first-field}
+use Rattle.semantics.specs.Table.{records, fields, pointers, variables, nodes, commands, entry-words, limits, count-place, count, item, entry-type, known-type, known-target, target, points-to-type, points-to-record, record-target, pointed-record, field-total, first-field}
 use Rattle.semantics.specs.Check.{Verdict, passes, refused, _or-else_, require, each, section-fault, words-over, record-fault, field-sum-fault, field-fault, pointer-fault, variable-fault, node-fault, command-fault, use-fault, check}
 use Rattle.semantics.proofs.Tests.{and-true, or-true}
 use Rattle.semantics.proofs.Lists.{sum-below-≤}
@@ -142,6 +142,10 @@ deref-known {t} ok ty known points =
     let less = ltb-true (target t ty) 65536 (p .1) in
     ⊎-elim (λ e. e) (λ e. absurd (omega (arith, leb-true 65536 (target t ty) (and-true _ _ e .0), less)))
     (or-true (known-type t (target t ty)) _ (target-known ok ty known (leb-true 2 ty (p .0))))
+
+pub target-record : (t : Words) (ty : ℕ) → points-to-record t ty ≡ true → target t ty ≡ record-target (pointed-record t ty)
+unfolding points-to-record pointed-record
+target-record t ty points = omega (arith, leb-true 65536 (target t ty) (and-true (leb 2 ty) (leb 65536 (target t ty)) points .1))
 
 -- A known pointer to a record points to one of the table's.
 pub record-known : {t : Words} → Types-passed t → (ty : ℕ) → known-type t ty ≡ true → points-to-record t ty ≡ true → pointed-record t ty < count t records

@@ -1,4 +1,4 @@
--- How each tree comes by its place or its value, and the one event that a read, a malloc and an assign have.
+-- How each tree comes by its place or its value, and the events that a read, a malloc, a copy and an assign have.
 use Prim.Native.Nat.{ℕ, _+_, _≤_, _<_}
 use mathlib.Core.Bool.{Bool, true, false}
 use mathlib.Core.Path.{_≡_, refl, sym, ap, _∙_}
@@ -8,12 +8,12 @@ use native.Mathlib.Omega.{arith}
 use borrow.Author.Tests.{eqb-true, eqb-false}
 use lib.Dec.{leb, eqb}
 use lib.ListN.{length}
-use Rattle.semantics.specs.Words.{if_then_else_}
-use Rattle.semantics.specs.Syntax.{Place, Variable, Deref, Field, NoPlace, Value, Number, Sum, Read, Address, Cast, Malloc, NoValue}
-use Rattle.semantics.specs.Rules.{Datum, unbounded, block-pointer, Location, Bounds-check, Event, stored, tested, State, noted, Outcome, ok, fails, no-room, no-rule, bind, check-of, checked, deref-step, field-step, touchable, contents, read-step, cast-step, with-block, malloc-step, place-at, value-at, with-datum, assign-step, assign}
-use Rattle.semantics.specs.Log.{Noted, Comes-by, variable-place, deref-place, field-place, Word-read, pointer-read, int-read, Allocates, no-words, new-block, Gives, number-value, sum-value, read-value, address-value, cast-value, malloc-value, Word-stored, pointer-stored, int-stored, Assigns, Clear-word, Same-word}
+use Rattle.semantics.specs.Words.{Words, moved, all-below, if_then_else_}
+use Rattle.semantics.specs.Syntax.{Place, Variable, Deref, Field, NoPlace, Value, Number, Sum, Read, Address, Cast, Malloc, Copy, NoValue}
+use Rattle.semantics.specs.Rules.{Datum, unbounded, block-pointer, Location, Bounds-check, Event, stored, tested, State, noted, Outcome, ok, fails, no-room, no-rule, bind, check-of, checked, pointed-step, deref-step, field-step, touchable, contents, read-step, cast-step, with-block, malloc-step, move-step, copy-step, place-at, value-at, with-datum, assign-step, assign}
+use Rattle.semantics.specs.Log.{Noted, Passes, Comes-by, variable-place, deref-place, field-place, Word-read, pointer-read, int-read, Allocates, no-words, new-block, Moves, Copies, Gives, number-value, sum-value, read-value, address-value, cast-value, malloc-value, copy-value, Word-stored, pointer-stored, int-stored, Assigns, Clear-word, Same-word}
 use Rattle.semantics.proofs.Tests.{Check-made, check-passed, check-missed, check-made}
-use Rattle.semantics.proofs.Lists.{zeroed-inside, zeroed-outside}
+use Rattle.semantics.proofs.Lists.{zeroed-inside, zeroed-outside, moved-length, moved-inside, moved-outside}
 
 -- ---- outcomes that are ok
 
@@ -56,27 +56,27 @@ both (no-rule s) f e = absurd (no-rule-not e)
 
 -- ---- places
 
-record Checked (n : ℕ) (p : Datum) (w k : ℕ) (l : Location) (s : State) (l′ : Location) (s′ : State) : Type 0 where
-  place : l ≡ l′
-  state : noted (tested (check-of n p w k)) s ≡ s′
-  inside : (i : ℕ) → i < k → (p .base ≤ w + i) × (w + i + 1 ≤ p .end)
+pub one-event : (e : Event) (s : State) → Noted e s (noted e s)
+one-event e s = record { values = refl; bases = refl; ends = refl; unused = refl; log = refl }
 
-checked-ok : (n : ℕ) (p : Datum) (w k : ℕ) (l : Location) (s : State) {l′ : Location} {s′ : State} → checked n p w k l s ≡ ok l′ s′ → Checked n p w k l s l′ s′
+pub record Checked (n : ℕ) (p : Datum) (w k : ℕ) (l : Location) (s : State) (l′ : Location) (s′ : State) : Type 0 where
+  pub place : l ≡ l′
+  pub state : noted (tested (check-of n p w k)) s ≡ s′
+  pub passes : Passes n p w k s (noted (tested (check-of n p w k)) s)
+
+pub checked-ok : (n : ℕ) (p : Datum) (w k : ℕ) (l : Location) (s : State) {l′ : Location} {s′ : State} → checked n p w k l s ≡ ok l′ s′ → Checked n p w k l s l′ s′
 checked-ok n p w k l s {l′} {s′} e = go (check-made n p w k l s) e
   where
     go : {o : Outcome Location} → Check-made n p w k l s o → o ≡ ok l′ s′ → Checked n p w k l s l′ s′
-    go (check-passed inside) q = record { place = same-result q; state = same-state q; inside = λ i less. omega (arith, inside (omega arith)) }
+    go (check-passed inside) q = record { place = same-result q; state = same-state q; passes = record { inside = λ i less. omega (arith, inside (omega arith)); event = one-event _ s } }
     go (check-missed miss) q = absurd (fails-not q)
-
-pub one-event : (e : Event) (s : State) → Noted e s (noted e s)
-one-event e s = record { values = refl; bases = refl; ends = refl; unused = refl; log = refl }
 
 deref-comes : {n : ℕ} (v : Value) (s : State) {l : Location} {s′ : State} → Both (value-at v s) (deref-step n) l s′ → Comes-by s l s′ (Deref n v)
 unfolding deref-step
 deref-comes {n} v s b =
     let c = checked-ok n (b .a) (b .a .value) 1 _ (b .s₁) (b .second) in
     rw (← (c .place), ← (c .state))
-    (deref-place (record { pointer = b .a; s₁ = b .s₁; child = b .first; access = refl; at = omega arith; inside = c .inside; event = one-event _ (b .s₁) }) refl refl)
+    (deref-place (record { pointer = b .a; s₁ = b .s₁; child = b .first; access = refl; at = omega arith; check = c .passes }) refl refl)
 
 field-comes : {n offset k : ℕ} (v : Value) (s : State) {l : Location} {s′ : State} → Both (value-at v s) (field-step n offset k) l s′
     → Comes-by s l s′ (Field n offset k v)
@@ -84,7 +84,7 @@ unfolding field-step
 field-comes {n} {offset} {k} v s b =
     let c = checked-ok n (b .a) (b .a .value + offset) k _ (b .s₁) (b .second) in
     rw (← (c .place), ← (c .state))
-    (field-place (record { pointer = b .a; s₁ = b .s₁; child = b .first; access = refl; at = refl; inside = c .inside; event = one-event _ (b .s₁) }) refl refl)
+    (field-place (record { pointer = b .a; s₁ = b .s₁; child = b .first; access = refl; at = refl; check = c .passes }) refl refl)
 
 -- Every place is come by as its tree says: a variable is named, and at a deref or a field the pointer logged is the child's value.
 pub places-are-come-by : (p : Place) (s : State) (l : Location) (s′ : State) → place-at p s ≡ ok l s′ → Comes-by s l s′ p
@@ -133,7 +133,39 @@ malloc-allocates x s {d} {s′} e = go (eqb (x .value) 0) refl (leb (s .unused +
         rw (← (same-result q), ← (same-state q)) (new-block (omega (arith, eqb-false (x .value) 0 z)) refl refl refl (new-words-clear (x .value) s) (others-kept (x .value) s))
     go false z false q = absurd (no-room-not q)
 
--- Every value is come by as its tree says: a read has one event, that of its place, a block has one, and nothing else has any.
+list-moves : (l : Words) (to from k : ℕ) → Moves to from k l (moved l to from k)
+list-moves l to from k = record { same-length = moved-length l to from k; there = λ i. moved-inside l to from k i; elsewhere = moved-outside l to from k }
+
+move-copies : (n k : ℕ) (p q : Datum) (s s₁ s₂ : State) (a b : Location) {d : Datum} {s′ : State} → pointed-step n k p s ≡ ok a s₁ → pointed-step n k q s₁ ≡ ok b s₂
+    → move-step k a b s₂ ≡ ok d s′ → Copies n k p q s d s′
+unfolding move-step
+move-copies n k p q s s₁ s₂ a b first second e =
+    let to = checked-ok n p (p .value) k _ s first in
+    let from = checked-ok n q (q .value) k _ s₁ second in
+    let m = touched (all-below k _) _ s₂ _ e in
+    rw (← (same-result m), ← (same-state m), ← (from .place), ← (to .place))
+    (record {
+      s₁ = s₁;
+      to = rw (to .state) at (to .passes);
+      s₂ = s₂;
+      from = rw (from .state) at (from .passes);
+      result = refl;
+      values = list-moves (s₂ .values) (p .value) (q .value) k;
+      bases = list-moves (s₂ .bases) (p .value) (q .value) k;
+      ends = list-moves (s₂ .ends) (p .value) (q .value) k;
+      unused = refl;
+      log = refl;
+    })
+
+copy-copies : (n k : ℕ) (p q : Datum) (s : State) {d : Datum} {s′ : State} → copy-step n k p q s ≡ ok d s′ → Copies n k p q s d s′
+unfolding copy-step
+copy-copies n k p q s e =
+    let a = both (pointed-step n k p s) _ e in
+    let b = both (pointed-step n k q (a .s₁)) (move-step k (a .a)) (a .second) in
+    move-copies n k p q s (a .s₁) (b .s₁) (a .a) (b .a) (a .first) (b .first) (b .second)
+
+-- Every value is come by as its tree says: a read has one event, that of its place, a block has one, a copy those of its checks and its words, and
+-- nothing else has any.
 pub values-have-their-events : (v : Value) (s : State) (d : Datum) (s′ : State) → value-at v s ≡ ok d s′ → Gives s d s′ v
 unfolding value-at
 values-have-their-events (Number n x) s d s′ e = number-value (sym (same-state e))
@@ -151,6 +183,10 @@ values-have-their-events (Cast n keeps v) s d s′ e =
 values-have-their-events (Malloc n v) s d s′ e =
     let b = both (value-at v s) malloc-step e in
     malloc-value (b .a) (b .s₁) (b .first) (malloc-allocates (b .a) (b .s₁) (b .second))
+values-have-their-events (Copy n k a b) s d s′ e =
+    let p = both (value-at a s) _ e in
+    let q = both (value-at b (p .s₁)) (copy-step n k (p .a)) (p .second) in
+    copy-value (p .a) (q .a) (q .s₁) (record { s₁ = p .s₁; first = p .first; second = q .first }) (copy-copies n k (p .a) (q .a) (q .s₁) (q .second))
 values-have-their-events NoValue s d s′ e = absurd (no-rule-not e)
 
 -- ---- a command

@@ -1,23 +1,26 @@
 -- Words that the log does not have as read do not sway a run. Two runs begin in states that are alike in every word read: step by step both
 -- have the same outcome, the same log, and the same in every word in which they began alike.
-use Prim.Native.Nat.{ℕ, zero, suc, _+_}
-use mathlib.Core.Bool.{Bool, true, false}
-use mathlib.Core.Path.{_≡_, refl, sym, ap, _∙_}
-use mathlib.Core.Logic.{⊎-elim}
+use Prim.Native.Nat.{ℕ, zero, suc, _+_, _≤_, _<_}
+use mathlib.Core.Bool.{Bool, true, false, _&&_}
+use mathlib.Core.Path.{_≡_, refl, sym, ap, ap₂, _∙_}
+use mathlib.Core.Logic.{_⊎_, inl, inr, ⊎-elim}
 use mathlib.Core.List.{List, [], _∷_, List·Memᴰ, List·Memᴰ·head, List·Memᴰ·tail, List·Memᴰ·cases-cons, List·Memᴰ·not-nil}
 use native.Mathlib.Omega.{arith}
 use native.Mathlib.Decide.{ℕ-discrete}
+use native.Mathlib.Nat.{add-zero}
 use lib.Dec.{leb, eqb}
 use lib.ListN.{length, replicate, set, length-set}
 use lib.Seq.{sets, getD-set-other}
-use Rattle.semantics.specs.Words.{Words, word, zeroed, if_then_else_}
+use Rattle.semantics.specs.Words.{Words, word, zeroed, words-from, moved, all-below, if_then_else_}
 use Rattle.semantics.specs.Registers.{register-count, register-variable, register-length, register-words}
 use Rattle.semantics.specs.Check.{command-place, command-value}
-use Rattle.semantics.specs.Syntax.{Place, Variable, Deref, Field, NoPlace, Value, Number, Sum, Read, Address, Cast, Malloc, NoValue, place-of, value-of}
-use Rattle.semantics.specs.Rules.{Datum, unbounded, block-pointer, Access, Location, variable-location, Bounds-check, Event, loaded, stored, State, noted, Outcome, ok, fails, no-room, no-rule, bind, enough-left, checked, deref-step, field-step, touchable, contents, read-step, address-step, sum-step, cast-step, with-block, malloc-step, place-at, value-at, with-datum, assign-step, assign}
+use Rattle.semantics.specs.Syntax.{Place, Variable, Deref, Field, NoPlace, Value, Number, Sum, Read, Address, Cast, Malloc, Copy, NoValue, place-of, value-of}
+use Rattle.semantics.specs.Rules.{Datum, unbounded, block-pointer, Access, Location, variable-location, Bounds-check, Event, loaded, stored, State, noted, Outcome, ok, fails, no-room, no-rule, bind, enough-left, checked, deref-step, field-step, touchable, contents, read-step, address-step, sum-step, cast-step, with-block, malloc-step, each-noted, with-copy, move-step, copy-step, place-at, value-at, with-datum, assign-step, assign}
 use Rattle.semantics.specs.Run.{cleared, with-register, registers-below, begin, command, Ending, done, abort, out-of-memory, stuck, Run, after-command, then-command, commands-below}
 use Rattle.semantics.specs.Log.{Same-word, Unwritten, Alike, Ends-alike}
-use Rattle.semantics.proofs.Blocks.{stored-loaded, stored-allocated, stored-tested}
+use Rattle.semantics.proofs.Blocks.{stored-loaded, stored-allocated, stored-tested, each-older, each-has, each-cases}
+use Rattle.semantics.proofs.Tests.{lt-or-le}
+use Rattle.semantics.proofs.Lists.{from-length}
 use Rattle.semantics.proofs.Invariant.{Within}
 use Rattle.semantics.proofs.Places.{log-kept}
 
@@ -45,16 +48,55 @@ agree-set {P} {Q} {l} {m} v x elsewhere h =
     go w q (yes e) = rw e (set-here l m v x (h .same-length))
     go w q (no n) = getD-set-other l v w x 0 n ∙ h .same w (elsewhere w n q) ∙ sym (getD-set-other m v w x 0 n)
 
-agree-sets : {P : ℕ → Type 0} {l m : Words} (i : ℕ) (xs : Words) → Agree P l m → Agree P (sets l i xs) (sets m i xs)
-agree-sets i [] h = h
-agree-sets i (x ∷ xs) h = agree-sets (suc i) xs (agree-set i x (λ w n p. p) h)
+agree-weaker : {P Q : ℕ → Type 0} {l m : Words} → ((w : ℕ) → Q w → P w) → Agree P l m → Agree Q l m
+agree-weaker f h = record { same-length = h .same-length; same = λ w q. h .same w (f w q) }
+
+-- The same for several values, from index i on.
+abbrev Outside : ℕ → ℕ → ℕ → Type 0
+Outside i n w = (w < i) ⊎ (i + n ≤ w)
+
+agree-sets : {P Q : ℕ → Type 0} {l m : Words} (i : ℕ) (xs : Words) → ((w : ℕ) → Outside i (length xs) w → Q w → P w) → Agree P l m → Agree Q (sets l i xs) (sets m i xs)
+agree-sets {P} {Q} i [] elsewhere h = agree-weaker (λ w. elsewhere w (either w)) h
+  where
+    either : (w : ℕ) → Outside i 0 w
+    either w = ⊎-elim {C = Outside i 0 w} inl (λ k. inr (omega arith)) (lt-or-le w i)
+agree-sets {P} {Q} i (x ∷ xs) elsewhere h = agree-sets {P = λ w. (w ≡ i) ⊎ P w} (suc i) xs further (agree-set i x not-here h)
+  where
+    not-here : (w : ℕ) → (w ≡ i → ⊥) → (w ≡ i) ⊎ P w → P w
+    not-here w n (inl e) = absurd (n e)
+    not-here w n (inr p) = p
+
+    go : (w : ℕ) → Dec (w ≡ i) → Outside (suc i) (length xs) w → Q w → (w ≡ i) ⊎ P w
+    go w (yes e) out q = inl e
+    go w (no n) (inl k) q = inr (elsewhere w (inl (omega arith)) q)
+    go w (no n) (inr k) q = inr (elsewhere w (inr (omega arith)) q)
+
+    further : (w : ℕ) → Outside (suc i) (length xs) w → Q w → (w ≡ i) ⊎ P w
+    further w = go w (ℕ-discrete w i)
 
 agree-zeroed : {P : ℕ → Type 0} {l m : Words} {u u′ : ℕ} (n : ℕ) → u ≡ u′ → Agree P l m → Agree P (zeroed l u n) (zeroed m u′ n)
 unfolding zeroed
-agree-zeroed {u = u} n e h = rw (← e) (agree-sets u (replicate n 0) h)
+agree-zeroed {u = u} n e h = rw (← e) (agree-sets u (replicate n 0) (λ w out p. p) h)
 
-agree-weaker : {P Q : ℕ → Type 0} {l m : Words} → ((w : ℕ) → Q w → P w) → Agree P l m → Agree Q l m
-agree-weaker f h = record { same-length = h .same-length; same = λ w q. h .same w (f w q) }
+-- Words that agree where they come from agree where they go.
+same-from : {P : ℕ → Type 0} {l m : Words} (from n : ℕ) → ((i : ℕ) → i < n → P (from + i)) → Agree P l m → words-from l from n ≡ words-from m from n
+unfolding words-from
+same-from from zero known h = refl
+same-from {P} {l} {m} from (suc n) known h =
+    ap₂ (λ x xs. x ∷ xs) (h .same from (rw (add-zero from) at (known 0 (omega arith))))
+    (same-from (suc from) n (λ i less. (let at : from + suc i ≡ suc from + i = omega arith in rw at at (known (suc i) (omega arith)))) h)
+
+agree-moved : {P Q : ℕ → Type 0} {l m : Words} (to from n : ℕ) → ((i : ℕ) → i < n → P (from + i)) → ((w : ℕ) → Outside to n w → Q w → P w) → Agree P l m
+    → Agree Q (moved l to from n) (moved m to from n)
+unfolding moved
+agree-moved {P} {Q} {l} {m} to from n known elsewhere h =
+    rw (← (same-from from n known h)) (agree-sets to (words-from l from n) (λ w out. elsewhere w (rw (from-length l from n) at out)) h)
+
+-- One answer for every number, one for all.
+same-below : (n : ℕ) {p q : ℕ → Bool} → ((i : ℕ) → p i ≡ q i) → all-below n p ≡ all-below n q
+unfolding all-below
+same-below zero h = refl
+same-below (suc n) h = ap₂ (λ x y. x && y) (same-below n h) (h n)
 
 -- ---- events
 
@@ -257,6 +299,55 @@ module _ (s₀ s₀′ : State) (final : List Event) (read : (w : ℕ) (a : Acce
       choice (λ s. eqb (x .value) 0) (λ s s′ t. refl) (given (unbounded 0))
       (choice (λ s. leb (s .unused + x .value) (length (s .values))) (same-fit (x .value)) (block-steady (x .value)) roomless)
 
+  -- ---- a copy
+
+  -- A word that a copy does not write is known from before it.
+  known-outside : (k : ℕ) (a b : Location) (s : State) (w : ℕ) → Outside (a .at) k w → Known (with-copy k a b s .log) w → Known (s .log) w
+  known-outside k a b s w out (at-first h) = at-first h
+  known-outside k a b s w out (written {a = c} m) =
+      each-cases (λ i. stored (a .at + i) (a .access)) {C = Known (s .log) w} k (stored w c) (λ i less q. absurd (apart i less (stored-where q) out))
+      (each-cases (λ i. loaded (b .at + i) (b .access)) {C = Known (s .log) w} k (stored w c) (λ i less q. absurd (stored-loaded q)) (λ h. written h)) m
+    where
+      apart : (i : ℕ) → i < k → w ≡ a .at + i → Outside (a .at) k w → ⊥
+      apart i less e (inl h) = omega arith
+      apart i less e (inr h) = omega arith
+
+  copy-twin : (k : ℕ) (a b : Location) → ((i : ℕ) → i < k → Same-word (b .at + i) s₀ s₀′) → (s s′ : State) → Twin s s′ → Twin (with-copy k a b s) (with-copy k a b s′)
+  copy-twin k a b alike s s′ t =
+      record {
+        unused = t .unused;
+        same-log = ap (λ log. each-noted k (λ i. stored (a .at + i) (a .access)) (each-noted k (λ i. loaded (b .at + i) (b .access)) log)) (t .same-log);
+        values = agree-moved (a .at) (b .at) k (λ i less. at-first (alike i less)) (known-outside k a b s) (t .values);
+        bases = agree-moved (a .at) (b .at) k alike (λ w out h. h) (t .bases);
+        ends = agree-moved (a .at) (b .at) k alike (λ w out h. h) (t .ends);
+      }
+
+  moved-steady : (k : ℕ) (a b : Location) → Steady (λ s. ok (unbounded k) (with-copy k a b s))
+  unfolding log-of
+  moved-steady k a b =
+      record {
+        grows = λ s e h. each-older stores k e (each-older loads k e h);
+        twins = λ s s′ t inside. twin-ok (copy-twin k a b (λ i less. read _ _ (inside (loads i) (each-older stores k (loads i) (each-has loads k i (s .log) less)))) s s′ t);
+      }
+    where
+      loads : ℕ → Event
+      loads i = loaded (b .at + i) (b .access)
+
+      stores : ℕ → Event
+      stores i = stored (a .at + i) (a .access)
+
+  copy-steady : (n k : ℕ) (p q : Datum) → Steady (copy-step n k p q)
+  unfolding copy-step move-step
+  copy-steady n k p q =
+      bound (checked-steady n p (p .value) k _)
+      (λ a.
+      bound (checked-steady n q (q .value) k _)
+      (λ b. choice (λ s. all-below k (λ i. touchable s (b .at + i) && touchable s (a .at + i))) (same-all a b) (moved-steady k a b) ruleless))
+    where
+      same-all : (a b : Location) (s s′ : State) → Twin s s′
+          → all-below k (λ i. touchable s (b .at + i) && touchable s (a .at + i)) ≡ all-below k (λ i. touchable s′ (b .at + i) && touchable s′ (a .at + i))
+      same-all a b s s′ t = same-below k (λ i. ap₂ (λ x y. x && y) (same-touchable (b .at + i) s s′ t) (same-touchable (a .at + i) s s′ t))
+
   -- ---- trees
 
   mutual
@@ -275,6 +366,7 @@ module _ (s₀ s₀′ : State) (final : List Event) (read : (w : ℕ) (a : Acce
     value-steady (Address n p) = bound (place-steady p) address-steady
     value-steady (Cast n keeps v) = bound (value-steady v) (cast-steady keeps)
     value-steady (Malloc n v) = bound (value-steady v) malloc-steady
+    value-steady (Copy n k a b) = bound (value-steady a) (λ p. bound (value-steady b) (copy-steady n k p))
     value-steady NoValue = ruleless
 
   -- ---- commands

@@ -2,11 +2,13 @@
 use Prim.Native.Nat.{ℕ, suc, _+_, _-_, _≤_, _<_}
 use mathlib.Core.Path.{_≡_, refl, sym, ap, _∙_}
 use native.Mathlib.Omega.{arith}
-use borrow.Author.Tests.{le-ltb}
+use borrow.Author.Tests.{ltb-true, le-ltb}
+use lib.Dec.{ltb}
 use Rattle.semantics.specs.Words.{Words, sum-below}
 use Rattle.semantics.specs.Table.{records, count, record-target, field-total, field-count, field-offset, size-of}
+use Rattle.semantics.specs.Check.{record-fault}
 use Rattle.semantics.proofs.Lists.{sum-below-≤, sum-below-+, sum-below-most}
-use Rattle.semantics.proofs.Passed.{Types-passed, section-ok, field-ok, fields-in, field-in}
+use Rattle.semantics.proofs.Passed.{require-passes, Types-passed, section-ok, field-ok, fields-in, field-in}
 
 -- The first field has nothing before it, and each field has before it what the last one had and that one's words.
 pub offset-none : (t : Words) (r : ℕ) → field-offset t r 0 ≡ 0
@@ -38,6 +40,14 @@ unfolding field-offset words-from
 offset-and-rest t r f h =
     let e : f + (field-total t r - f) ≡ field-total t r = omega arith in
     sym (sum-below-+ (field-count t r) f (field-total t r - f)) ∙ ap (λ (n : ℕ). sum-below n (field-count t r)) e ∙ offset-last t r
+
+-- It has at least one field, of at least one word.
+pub size-some : {t : Words} → Types-passed t → (r : ℕ) → r < count t records → 1 ≤ size-of t (record-target r)
+unfolding record-fault field-count field-offset sum-below
+size-some {t} ok r h =
+    let some = ltb-true 0 (field-total t r) (require-passes (ltb 0 (field-total t r)) 4 _ (ok .record-passes r h)) in
+    let first = field-ok ok _ (field-in ok r 0 h some) .some in
+    omega (arith, offset-most t r 1 some, first)
 
 -- A record of a table whose types pass has at most 128 fields of at most 4,096 words.
 pub size-most : {t : Words} → Types-passed t → (r : ℕ) → r < count t records → size-of t (record-target r) ≤ 524288

@@ -9,7 +9,7 @@ use borrow.Author.Tests.{le-leb, lt-leb, lt-ltb, le-ltb}
 use lib.Dec.{leb, ltb}
 use Rattle.semantics.specs.Words.{Words}
 use Rattle.semantics.specs.Registers.{register-variable, register-length, register-words}
-use Rattle.semantics.specs.Rules.{Event, loaded, stored, allocated, tested, State}
+use Rattle.semantics.specs.Rules.{Event, loaded, stored, allocated, tested, State, each-noted}
 use Rattle.semantics.specs.Run.{with-register, registers-below}
 use Rattle.semantics.specs.Explain.{block-start}
 use Rattle.semantics.proofs.Tests.{and-both}
@@ -23,6 +23,11 @@ start-beside (loaded at a) log w apart = refl
 start-beside (stored at a) log w apart = refl
 start-beside (allocated s n) log w apart = absurd (apart s n refl)
 start-beside (tested x) log w apart = refl
+
+pub start-each : (e : ℕ → Event) (k : ℕ) (log : List Event) (w : ℕ) → ((i : ℕ) → No-block (e i)) → block-start (each-noted k e log) w ≡ block-start log w
+unfolding each-noted
+start-each e zero log w apart = refl
+start-each e (suc k) log w apart = start-beside (e k) (each-noted k e log) w (apart k) ∙ start-each e k log w apart
 
 pub start-newest : (s n : ℕ) (log : List Event) (w : ℕ) → s ≤ w → w < s + n → block-start (allocated s n ∷ log) w ≡ s
 unfolding block-start

@@ -4,7 +4,7 @@ use mathlib.Core.Bool.{Bool, true, false, _&&_, _||_}
 use mathlib.Core.Path.{_≡_, refl}
 use mathlib.Core.Logic.{_⊎_, inl, inr}
 use native.Mathlib.Omega.{arith}
-use borrow.Author.Tests.{leb-true, leb-false, ltb-true, ltb-false}
+use borrow.Author.Tests.{leb-true, leb-false, ltb-true, ltb-false, le-leb}
 use lib.Dec.{leb, ltb}
 use Rattle.semantics.specs.Words.{if_then_else_}
 use Rattle.semantics.specs.Rules.{Datum, Location, tested, State, noted, Outcome, ok, fails, words-left, enough-left, check-of, checked}
@@ -22,6 +22,30 @@ and-both a b p q = rw (p, q)
 pub or-true : (a b : Bool) → a || b ≡ true → (a ≡ true) ⊎ (b ≡ true)
 or-true true b e = inl refl
 or-true false b e = inr e
+
+pub lt-or-le : (m n : ℕ) → (m < n) ⊎ (n ≤ m)
+lt-or-le m n = go (ltb m n) refl
+  where
+    go : (b : Bool) → ltb m n ≡ b → (m < n) ⊎ (n ≤ m)
+    go true e = inl (ltb-true m n e)
+    go false e = inr (ltb-false m n e)
+
+-- A number that is at least j and not j.
+pub past : {j k : ℕ} → j ≤ k → (k ≡ j → ⊥) → suc j ≤ k
+past less other = omega arith
+
+-- Whether a word lies among the k words from `to` on.
+pub data Lies (to k w : ℕ) : Type 0 where
+  inside : (i : ℕ) → i < k → w ≡ to + i → Lies to k w
+  outside : (w < to) ⊎ (to + k ≤ w) → Lies to k w
+
+pub lies : (to k w : ℕ) → Lies to k w
+lies to k w = go (lt-or-le w to) (lt-or-le w (to + k))
+  where
+    go : (w < to) ⊎ (to ≤ w) → (w < to + k) ⊎ (to + k ≤ w) → Lies to k w
+    go (inl below) upto = outside (inl below)
+    go (inr from) (inl upto) = inside (w - to) (omega arith) (omega arith)
+    go (inr from) (inr above) = outside (inr above)
 
 -- ---- how many words are left
 
@@ -86,6 +110,12 @@ enough-false p w k e from upto =
     omega arith
 
 -- ---- a check
+
+-- Where enough words are left it is passed.
+pub check-enough : (n : ℕ) (p : Datum) (w k : ℕ) (l : Location) (s : State) → k ≤ words-left (p .base) (p .end) w
+    → checked n p w k l s ≡ ok l (noted (tested (check-of n p w k)) s)
+unfolding checked enough-left
+check-enough n p w k l s enough = rw (le-leb k (words-left (p .base) (p .end) w) enough)
 
 -- What a check comes to: it is logged, and is passed or not. Of one that asks for no word, that it is passed says nothing.
 pub data Check-made (n : ℕ) (p : Datum) (w k : ℕ) (l : Location) (s : State) : Outcome Location → Type 0 where

@@ -9,14 +9,15 @@ use borrow.Author.Tests.{ltb-true, eqb-true}
 use lib.Dec.{ltb, eqb}
 use lib.ListN.{getD}
 use Rattle.semantics.specs.Words.{Words, word}
-use Rattle.semantics.specs.Table.{variables, nodes, commands, count, item-place, known-type, points-to-record, field-type, field-count, Kind, variable, deref, field, constant, sum, read, address, cast, size, malloc, unknown, Sort, place, value, neither, sort-of, operand-a, operand-b, node-kind, node-a, node-b, type-by-kind, type-rule, types-below, node-type}
+use Rattle.semantics.specs.Table.{variables, nodes, commands, count, item-place, known-type, target, points-to-record, pointed-record, size-of, field-type, field-count, Kind, variable, deref, field, constant, sum, read, address, cast, size, malloc, copy, unknown, Sort, place, value, neither, sort-of, operand-a, operand-b, node-kind, node-a, node-b, type-by-kind, type-rule, types-below, node-type}
 use Rattle.semantics.specs.Check.{passes, require, same-sort, is-child, operand-fault, types-fit, node-fault, command-place, command-value, command-fault}
 use Rattle.semantics.specs.Syntax.{Place, Value, Tree, senseless, as-place, as-value, tree-by-kind, tree-rule, trees-below, tree-of, place-of, value-of}
 use Rattle.semantics.specs.Syntax as Syntax
 use Rattle.semantics.proofs.Tests.{and-true}
 use Rattle.semantics.proofs.Lists.{getD-grow}
-use Rattle.semantics.proofs.Passed.{or-else-passes, require-passes, Types-passed, Passed, int-known, entry-known, variable-known, field-ok, deref-known, record-known, field-in}
-use Rattle.semantics.proofs.Steps.{Place-ok, variable-ok, deref-ok, field-ok as field-place-ok, Value-ok, number-ok, sum-ok, read-ok, address-ok, cast-ok, malloc-ok}
+use Rattle.semantics.proofs.Passed.{or-else-passes, require-passes, Types-passed, Passed, int-known, entry-known, variable-known, field-ok, deref-known, target-record, record-known, field-in}
+use Rattle.semantics.proofs.Sizes.{size-some}
+use Rattle.semantics.proofs.Steps.{Place-ok, variable-ok, deref-ok, field-ok as field-place-ok, Value-ok, number-ok, sum-ok, read-ok, address-ok, cast-ok, malloc-ok, copy-ok}
 
 -- ---- one node
 
@@ -86,6 +87,7 @@ module _ {t : Words} (ok : Types-passed t) (n : ℕ) (below : (i : ℕ) → i < 
   known-by-kind cast a b g = require-passes (known-type t b) _ _ (g .b-ok)
   known-by-kind size a b g = int-known t 0 (omega arith)
   known-by-kind malloc a b g = int-known t 1 (omega arith)
+  known-by-kind copy a b g = int-known t 0 (omega arith)
   known-by-kind unknown a b g = int-known t 0 (omega arith)
 
 -- The nodes below n pass, and so their types are known.
@@ -97,6 +99,11 @@ types-known {t} ok (suc n) pass i less = go (ℕ-discrete i n) (types-known ok n
     go : Dec (i ≡ n) → ((j : ℕ) → j < n → known-type t (node-type t j) ≡ true) → known-type t (node-type t i) ≡ true
     go (yes e) below = rw e (known-by-kind ok n below (node-kind t n) (node-a t n) (node-b t n) (node-ok t n (pass n (omega arith))))
     go (no e) below = below i (omega arith)
+
+-- The record that a pointer points to has at least one word.
+copied-some : {t : Words} → Types-passed t → (ty : ℕ) → known-type t ty ≡ true → points-to-record t ty ≡ true → 0 < size-of t (target t ty)
+copied-some {t} ok ty known points =
+    rw (target-record t ty points) (size-some ok (pointed-record t ty) (record-known ok ty known points))
 
 -- ---- trees
 
@@ -144,6 +151,11 @@ module _ {t : Words} (ok : Passed t) (n : ℕ) (inside : n < count t nodes)
   tree-by-kind-ok cast a b g = value-tree (cast-ok (child-value a _ (g .a-ok)))
   tree-by-kind-ok size a b g = value-tree number-ok
   tree-by-kind-ok malloc a b g = value-tree (malloc-ok (child-value a _ (g .a-ok)))
+  tree-by-kind-ok copy a b g =
+      let c = is-child-true t value n a (require-passes (is-child t value n a) 7 _ (g .a-ok)) in
+      let f = and-true (points-to-record t (node-type t a)) _ (g .fit) in
+      let known = types-known (ok .types) n (λ i less. ok .node-passes i (omega arith)) a (c .0) in
+      value-tree (copy-ok (copied-some (ok .types) (node-type t a) known (f .0)) (child-value a _ (g .a-ok)) (child-value b _ (g .b-ok)))
   tree-by-kind-ok unknown a b g = absurd (mathlib.Core.Bool.false≢true (g .kind-ok))
 
 pub trees-ok : {t : Words} → Passed t → (n : ℕ) → n ≤ count t nodes → (i : ℕ) → i < n → Tree-ok (count t variables) (sort-of (node-kind t i)) (tree-of t i)

@@ -1,11 +1,11 @@
--- Document 01, "What is turned away", and what request 1 adds to it: the refusals by number and place, in their order.
+-- Document 01, "What is turned away", and what requests 1 and 6 add to it: the refusals by number and place, in their order.
 use Prim.Native.Nat.{ℕ, zero, suc, _+_}
 use mathlib.Core.Bool.{Bool, true, false, not, _&&_, _||_}
 use mathlib.Core.List.{[], _∷_}
 use lib.ListN.{length}
 use lib.Dec.{leb, ltb, eqb}
 use Rattle.semantics.specs.Words.{Words, word, sum-below, seen-before, if_then_else_}
-use Rattle.semantics.specs.Table.{records, fields, pointers, variables, nodes, commands, limits, count-place, count, item-place, item, int, is-pointer, known-type, known-target, points-to-type, points-to-record, pointed-record, entry-below, field-total, first-field, Kind, variable, deref, field, constant, sum, read, address, cast, size, malloc, unknown, Sort, place, value, neither, sort-of, Operand, unused, variable-number, field-number, any-word, type-word, target-word, place-child, value-child, operand-a, operand-b, node-kind, node-a, node-b, children, node-type}
+use Rattle.semantics.specs.Table.{records, fields, pointers, variables, nodes, commands, limits, count-place, count, item-place, item, int, is-pointer, known-type, known-target, points-to-type, points-to-record, pointed-record, entry-below, field-total, first-field, Kind, variable, deref, field, constant, sum, read, address, cast, size, malloc, copy, unknown, Sort, place, value, neither, sort-of, Operand, unused, variable-number, field-number, any-word, type-word, target-word, place-child, value-child, operand-a, operand-b, node-kind, node-a, node-b, children, node-type}
 use Rattle.semantics.specs.Registers.{register-count, register-place, register-variable, register-start}
 
 pub data Verdict : Type 0 where
@@ -88,7 +88,8 @@ operand-fault t n target-word x p = require (known-target t x) 5 p
 operand-fault t n place-child x p = require (is-child t place n x) 7 p
 operand-fault t n value-child x p = require (is-child t value n x) 7 p
 
--- 8: "types don't fit, or no such field in the record", for a node of this kind with these two other words.
+-- 8: "types don't fit, or no such field in the record", for a node of this kind with these two other words. Request 6: "8 also where the two
+-- pointer types differ or don't point to a record."
 abbrev pub types-fit : Words → Kind → ℕ → ℕ → Bool
 types-fit t variable a b = true
 types-fit t deref a b = points-to-type t (node-type t a)
@@ -100,6 +101,7 @@ types-fit t address a b = ltb (entry-below t (count t pointers) (node-type t a))
 types-fit t cast a b = true
 types-fit t size a b = true
 types-fit t malloc a b = eqb (node-type t a) int
+types-fit t copy a b = points-to-record t (node-type t a) && eqb (node-type t a) (node-type t b)
 types-fit t unknown a b = true
 
 abbrev pub any-of : (ℕ → Bool) → Words → Bool

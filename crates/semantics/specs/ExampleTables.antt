@@ -63,6 +63,9 @@ size x = node 9 x 0
 abbrev pub malloc : ℕ → Words
 malloc a = node 10 a 0
 
+abbrev pub copy : ℕ → ℕ → Words
+copy a b = node 11 a b
+
 abbrev pub assign : ℕ → ℕ → Words
 assign p v = p ∷ v ∷ []
 
@@ -79,6 +82,7 @@ pub data Term : Type 0 where
   Cast : Term → ℕ → Term
   Size : ℕ → Term
   Malloc : Term → Term
+  Copy : Term → Term → Term
 
 infix 30 _:=_
 pub data Command : Type 0 where
@@ -102,6 +106,10 @@ tree n (Address t) = let l : List Words = tree n t in l ++ (address (last n l) �
 tree n (Cast t ty) = let l : List Words = tree n t in l ++ (cast (last n l) ty ∷ [])
 tree n (Size x) = size x ∷ []
 tree n (Malloc t) = let l : List Words = tree n t in l ++ (malloc (last n l) ∷ [])
+tree n (Copy s t) =
+    let l : List Words = tree n s in
+    let r : List Words = tree (n + length l) t in
+    l ++ r ++ (copy (last n l) (last (n + length l) r) ∷ [])
 
 -- The nodes of the commands, a place's before its value's, and the commands, where the first node has number n.
 abbrev pub nodes-of : ℕ → List Command → List Words

@@ -9,7 +9,7 @@ use Rattle.semantics.specs.Rules.{Datum, unbounded}
 use Rattle.semantics.specs.Run.{done, abort, out-of-memory, Answer, refusal, ending}
 use Rattle.semantics.specs.ExampleTables.{types, of-type, Term, Var, Deref, Field, Num, Sum, Read, Address, Cast, Malloc, Command, _:=_, routine, Judgement, gives, Example, called, answer-with, untouched, ends-so, bounded, no-registers}
 
--- ---- "What is turned away", one example for each number that the check gives
+-- ---- "What is turned away", one example for each number that the check gives; that for 7 "takes kind 99" (request 6)
 
 abbrev printed : List Judgement
 printed =
@@ -19,7 +19,7 @@ printed =
     ∷ gives (1 ∷ 0 ∷ 0 ∷ 0 ∷ 0 ∷ 0 ∷ 0 ∷ []) (refused 4 1)
     ∷ gives (0 ∷ 0 ∷ 0 ∷ 1 ∷ 2 ∷ 0 ∷ 0 ∷ []) (refused 5 4)
     ∷ gives (0 ∷ 0 ∷ 2 ∷ 0 ∷ 0 ∷ 0 ∷ 0 ∷ 0 ∷ []) (refused 6 4)
-    ∷ gives (0 ∷ 0 ∷ 0 ∷ 0 ∷ 1 ∷ 11 ∷ 0 ∷ 0 ∷ 0 ∷ []) (refused 7 5)
+    ∷ gives (0 ∷ 0 ∷ 0 ∷ 0 ∷ 1 ∷ 99 ∷ 0 ∷ 0 ∷ 0 ∷ []) (refused 7 5)
     ∷ gives (0 ∷ 0 ∷ 0 ∷ 1 ∷ 1 ∷ 3 ∷ 1 ∷ 0 ∷ 0 ∷ 6 ∷ 0 ∷ 0 ∷ 2 ∷ 1 ∷ 0 ∷ 0 ∷ []) (refused 8 12)
     ∷ gives (0 ∷ 0 ∷ 0 ∷ 0 ∷ 1 ∷ 4 ∷ 7 ∷ 0 ∷ 0 ∷ []) (refused 9 5)
     ∷ []

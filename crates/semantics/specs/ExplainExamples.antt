@@ -14,11 +14,11 @@ use Rattle.semantics.specs.RunExamples.{int, int*, record-1*, x, p, v, r
 
 -- ---- How an explanation is written
 
-abbrev check : (node at words base end : ℕ) → Bounds-check
+abbrev pub check : (node at words base end : ℕ) → Bounds-check
 check n w k b e = record { node = n; at = w; words = k; base = b; end = e }
 
 -- "the node, the place wanted, the number of words wanted, the base and end, and one reason", then "the first word"
-abbrev told : (node at words base end reason first : ℕ) → Explanation
+abbrev pub told : (node at words base end reason first : ℕ) → Explanation
 told n w k b e reason first = because (record { check = check n w k b e; reason = reason; first = first })
 
 -- A call in memory of 12 words, and what is told of it.

@@ -18,3 +18,4 @@ pub mod RunExamples
 pub mod TreeExamples
 pub mod ExplainExamples
 pub mod LeftExamples
+pub mod CopyExamples

@@ -10,8 +10,8 @@ use lib.ListN.{length, set}
 use Rattle.semantics.specs.Words.{Words, word}
 use Rattle.semantics.specs.Table.{variables, commands, count}
 use Rattle.semantics.specs.Check.{passes, call-fault}
-use Rattle.semantics.specs.Syntax.{Place, Variable, Deref, Field, Value, Number, Sum, Read, Address, Cast, Malloc}
-use Rattle.semantics.specs.Rules.{Datum, unbounded, block-pointer, Access, named, followed, Location, Bounds-check, Event, loaded, stored, allocated, tested, State, ok, fails, check-of, place-at, value-at}
+use Rattle.semantics.specs.Syntax.{Place, Variable, Deref, Field, Value, Number, Sum, Read, Address, Cast, Malloc, Copy}
+use Rattle.semantics.specs.Rules.{Datum, unbounded, block-pointer, Access, named, followed, Location, Bounds-check, Event, loaded, stored, allocated, tested, State, ok, fails, check-of, each-noted, place-at, value-at}
 use Rattle.semantics.specs.Run.{begin, Run, commands-below, run}
 use Rattle.semantics.specs.Safety.{Held}
 
@@ -57,7 +57,7 @@ pub record Ends-alike (s s′ : State) (r r′ : Run) : Type 0 where
   pub words : (w : ℕ) → Same-word w s s′ → Same-word w (r .state) (r′ .state)
   pub written : (w : ℕ) (a : Access) → List·Memᴰ (stored w a) (r .state .log) → word (r .state .values) w ≡ word (r′ .state .values) w
 
--- ---- How a place is come by, and the one event of a step
+-- ---- How a place is come by, and the events of a step
 
 -- One event more, and memory and U as they were.
 pub record Noted (e : Event) (s s′ : State) : Type 0 where
@@ -67,17 +67,22 @@ pub record Noted (e : Event) (s s′ : State) : Type 0 where
   pub unused : s′ .unused ≡ s .unused
   pub log : s′ .log ≡ e ∷ s .log
 
+-- Node n's check of k words from w on, by the pointer p, is passed: each of them lies within the pointer's bounds. "Word w lies within [b, e) when
+-- b ≤ w and w + 1 ≤ e." The check is one event.
+pub record Passes (n : ℕ) (p : Datum) (w k : ℕ) (s s′ : State) : Type 0 where
+  pub inside : (i : ℕ) → i < k → (p .base ≤ w + i) × (w + i + 1 ≤ p .end)
+  pub event : Noted (tested (check-of n p w k)) s s′
+
 -- A place of node n that a pointer was followed to: "its child a is the pointer followed, and the bounds are those that this value had when the
--- place was worked out." It is `offset` words past the pointer's value, and each of the `words` words from there on lies within the pointer's bounds:
--- that check is the one event of the place's own, after those of the child. "Word w lies within [b, e) when b ≤ w and w + 1 ≤ e."
+-- place was worked out." It is `offset` words past the pointer's value. Its check, of `words` words from there on, is the one event of the place's
+-- own, after those of the child.
 pub record Followed-to (n : ℕ) (v : Value) (offset words : ℕ) (s : State) (l : Location) (s′ : State) : Type 0 where
   pub pointer : Datum
   pub s₁ : State
   pub child : value-at v s ≡ ok pointer s₁
   pub access : l .access ≡ followed pointer
   pub at : l .at ≡ pointer .value + offset
-  pub inside : (i : ℕ) → i < words → (pointer .base ≤ l .at + i) × (l .at + i + 1 ≤ pointer .end)
-  pub event : Noted (tested (check-of n pointer (l .at) words)) s₁ s′
+  pub check : Passes n pointer (l .at) words s₁ s′
 
 -- How a tree comes by its place l: worked out from state s, with state s′ afterwards.
 pub data Comes-by (s : State) (l : Location) (s′ : State) : Place → Type 0 where
@@ -107,8 +112,36 @@ pub data Allocates (n : ℕ) (s : State) (d : Datum) (s′ : State) : Type 0 whe
       → ((w : ℕ) → s .unused ≤ w → w < s .unused + n → Clear-word w s′) → ((w : ℕ) → (w < s .unused) ⊎ (s .unused + n ≤ w) → Same-word w s s′)
       → Allocates n s d s′
 
--- How a tree comes by its value d. "The routine reads a word at a read": that is one event, with the place's access; a block is one too; and no
--- other tree has an event of its own.
+-- Request 6: "The words at b go to a .. as they were before the copy, even where the two overlap." Of one list: each of the k words from `to` on
+-- holds what the word as far from `from` on held, if the list is so long; every other word is as it was.
+pub record Moves (to from k : ℕ) (l l′ : Words) : Type 0 where
+  pub same-length : length l′ ≡ length l
+  pub there : (i : ℕ) → i < k → to + i < length l → word l′ (to + i) ≡ word l (from + i)
+  pub elsewhere : (w : ℕ) → (w < to) ⊎ (to + k ≤ w) → word l′ w ≡ word l w
+
+-- A copy of k words by node n, to the pointer p from the pointer q: "then a's place is checked for the record's size, then b's"; the words move "with
+-- value, base and end"; and "for a word read the pointer followed is b, for a word written it is a." "The result is the number of words, without
+-- bounds."
+pub record Copies (n k : ℕ) (p q : Datum) (s : State) (d : Datum) (s′ : State) : Type 0 where
+  pub s₁ : State
+  pub to : Passes n p (p .value) k s s₁
+  pub s₂ : State
+  pub from : Passes n q (q .value) k s₁ s₂
+  pub result : d ≡ unbounded k
+  pub values : Moves (p .value) (q .value) k (s₂ .values) (s′ .values)
+  pub bases : Moves (p .value) (q .value) k (s₂ .bases) (s′ .bases)
+  pub ends : Moves (p .value) (q .value) k (s₂ .ends) (s′ .ends)
+  pub unused : s′ .unused ≡ s₂ .unused
+  pub log : s′ .log ≡ each-noted k (λ i. stored (p .value + i) (followed p)) (each-noted k (λ i. loaded (q .value + i) (followed q)) (s₂ .log))
+
+-- "Both are evaluated": a first, and then b.
+pub record Operands (a b : Value) (s : State) (p q : Datum) (s′ : State) : Type 0 where
+  pub s₁ : State
+  pub first : value-at a s ≡ ok p s₁
+  pub second : value-at b s₁ ≡ ok q s′
+
+-- How a tree comes by its value d. "The routine reads a word at a read": that is one event, with the place's access; a block is one too; a copy has
+-- those of its checks and its words; and no other tree has an event of its own.
 pub data Gives (s : State) (d : Datum) (s′ : State) : Value → Type 0 where
   number-value : {n x : ℕ} → s′ ≡ s → Gives s d s′ (Number n x)
   sum-value : {n step : ℕ} {a b : Value} (p x : Datum) (s₁ : State) → value-at a s ≡ ok p s₁ → value-at b s₁ ≡ ok x s′ → Gives s d s′ (Sum n step a b)
@@ -117,6 +150,7 @@ pub data Gives (s : State) (d : Datum) (s′ : State) : Value → Type 0 where
   address-value : {n : ℕ} {p : Place} (l : Location) → place-at p s ≡ ok l s′ → Gives s d s′ (Address n p)
   cast-value : {n : ℕ} {keeps : Bool} {v : Value} (x : Datum) → value-at v s ≡ ok x s′ → Gives s d s′ (Cast n keeps v)
   malloc-value : {n : ℕ} {v : Value} (x : Datum) (s₁ : State) → value-at v s ≡ ok x s₁ → Allocates (x .value) s₁ d s′ → Gives s d s′ (Malloc n v)
+  copy-value : {n k : ℕ} {a b : Value} (p q : Datum) (s₁ : State) → Operands a b s p q s₁ → Copies n k p q s₁ d s′ → Gives s d s′ (Copy n k a b)
 
 -- "Assign: a pointer type stores value, base and end; int stores the value only, and the word's base and end stay."
 pub data Word-stored (s : State) (w : ℕ) (x : Datum) (s′ : State) : Bool → Type 0 where
@@ -138,17 +172,21 @@ pub record Assigns (pointer : Bool) (p : Place) (v : Value) (s s′ : State) : T
 
 -- ---- The check by which a step fails
 
--- A place's own check, by the pointer that its child gave: "A check not passed is an abort." It is one event after those of the child.
+-- Node n's check of k words from w on, by the pointer p, is not passed: "A check not passed is an abort." It is one event.
+pub record Misses (n : ℕ) (p : Datum) (w k : ℕ) (s : State) (x : Bounds-check) (s′ : State) : Type 0 where
+  pub is : x ≡ check-of n p w k
+  pub not-passed : x .base ≤ x .at → x .at + x .words ≤ x .end → ⊥
+  pub event : Noted (tested x) s s′
+
+-- A place's own check, by the pointer that its child gave, after the child's events.
 pub record Own-check (n : ℕ) (v : Value) (offset words : ℕ) (s : State) (x : Bounds-check) (s′ : State) : Type 0 where
   pub pointer : Datum
   pub s₁ : State
   pub child : value-at v s ≡ ok pointer s₁
-  pub is : x ≡ check-of n pointer (pointer .value + offset) words
-  pub not-passed : x .base ≤ x .at → x .at + x .words ≤ x .end → ⊥
-  pub event : Noted (tested x) s₁ s′
+  pub check : Misses n pointer (pointer .value + offset) words s₁ x s′
 
--- How a tree fails: a follow or a field by its own check or where its child did, any other tree where a child did. It is then by that child's
--- check and in that child's state. "Child a goes before child b"
+-- How a tree fails: a follow or a field by its own check or where its child did, a copy by one of its two checks or where a child did, any other
+-- tree where a child did. Where a child did, it is by that child's check and in that child's state. "Child a goes before child b"
 pub data Place-fails (s : State) (x : Bounds-check) (s′ : State) : Place → Type 0 where
   deref-check : {n : ℕ} {v : Value} → Own-check n v 0 1 s x s′ → Place-fails s x s′ (Deref n v)
   deref-child : {n : ℕ} {v : Value} → value-at v s ≡ fails x s′ → Place-fails s x s′ (Deref n v)
@@ -162,6 +200,12 @@ pub data Value-fails (s : State) (x : Bounds-check) (s′ : State) : Value → T
   address-place : {n : ℕ} {p : Place} → place-at p s ≡ fails x s′ → Value-fails s x s′ (Address n p)
   cast-child : {n : ℕ} {keeps : Bool} {v : Value} → value-at v s ≡ fails x s′ → Value-fails s x s′ (Cast n keeps v)
   malloc-child : {n : ℕ} {v : Value} → value-at v s ≡ fails x s′ → Value-fails s x s′ (Malloc n v)
+  copy-left : {n k : ℕ} {a b : Value} → value-at a s ≡ fails x s′ → Value-fails s x s′ (Copy n k a b)
+  copy-right : {n k : ℕ} {a b : Value} (p : Datum) (s₁ : State) → value-at a s ≡ ok p s₁ → value-at b s₁ ≡ fails x s′ → Value-fails s x s′ (Copy n k a b)
+  -- "then a's place is checked .., then b's": no word is written before both are passed
+  copy-to : {n k : ℕ} {a b : Value} (p q : Datum) (s₁ : State) → Operands a b s p q s₁ → Misses n p (p .value) k s₁ x s′ → Value-fails s x s′ (Copy n k a b)
+  copy-from : {n k : ℕ} {a b : Value} (p q : Datum) (s₁ s₂ : State) → Operands a b s p q s₁ → Passes n p (p .value) k s₁ s₂ → Misses n q (q .value) k s₂ x s′
+      → Value-fails s x s′ (Copy n k a b)
 
 -- "a command's place before its value"
 pub data Assign-fails (p : Place) (v : Value) (s : State) (x : Bounds-check) (s′ : State) : Type 0 where

@@ -1,11 +1,11 @@
--- What the check answers: document 01, "The table" and "What is turned away". For each sentence there are tables that would be judged
--- otherwise if it were read otherwise by one word. proofs/Examples.antt computes each list.
+-- What the check answers: document 01, "The table" and "What is turned away", and what request 6 adds to it. For each sentence there are tables
+-- that would be judged otherwise if it were read otherwise by one word. proofs/Examples.antt computes each list.
 use Prim.Native.Nat.{ℕ, zero, suc, _+_, _*_}
-use mathlib.Core.List.{List, [], _∷_, _++_}
+use mathlib.Core.List.{List, [], _∷_, _++_, map}
 use lib.ListN.{length, replicate, take}
 use Rattle.semantics.specs.Words.{Words}
 use Rattle.semantics.specs.Check.{Verdict, passes, refused}
-use Rattle.semantics.specs.ExampleTables.{section, of-type, types, node, var, deref, field, num, sum, read, address, cast, size, malloc, assign, Judgement, gives}
+use Rattle.semantics.specs.ExampleTables.{section, of-type, types, node, var, deref, field, num, sum, read, address, cast, size, malloc, copy, assign, Judgement, gives}
 
 -- ---- 1 to 3: sections, counts and words over
 
@@ -122,6 +122,10 @@ five-variables =
 abbrev nodes-give : List Words → Verdict → Judgement
 nodes-give ns v = gives (five-variables ++ section ns ++ (0 ∷ [])) v
 
+-- Node 4 copies a record: a is variable i, and b variable j. Then these nodes.
+abbrev copies : (i j : ℕ) → List Words → Verdict → Judgement
+copies i j ns v = nodes-give (var i ∷ read 0 ∷ var j ∷ read 2 ∷ copy 1 3 ∷ ns) v
+
 -- Where the three words of node n stand.
 abbrev kind-at : ℕ → ℕ
 kind-at n = 22 + 3 * n
@@ -136,7 +140,7 @@ unfoldable pub operands : List Judgement
 operands =
     -- "unknown kind", whatever the other words
     nodes-give (num 7 ∷ node 0 0 0 ∷ []) (refused 7 (kind-at 1))
-    ∷ nodes-give (num 7 ∷ node 11 0 0 ∷ []) (refused 7 (kind-at 1))
+    ∷ nodes-give (num 7 ∷ node 12 0 0 ∷ []) (refused 7 (kind-at 1))
     ∷ nodes-give (num 7 ∷ num 8 ∷ node 4294967295 9 9 ∷ []) (refused 7 (kind-at 2))
     -- "unknown .. variable"
     ∷ nodes-give (var 4 ∷ var 5 ∷ []) (refused 7 (a-at 1))
@@ -154,6 +158,10 @@ operands =
     ∷ nodes-give (num 7 ∷ sum 0 1 ∷ []) (refused 7 (b-at 1))
     ∷ nodes-give (num 7 ∷ cast 1 0 ∷ []) (refused 7 (a-at 1))
     ∷ nodes-give (num 7 ∷ malloc 4294967295 ∷ []) (refused 7 (a-at 1))
+    ∷ nodes-give (num 7 ∷ copy 2 0 ∷ num 8 ∷ []) (refused 7 (a-at 1))
+    ∷ nodes-give (num 7 ∷ copy 0 2 ∷ num 8 ∷ []) (refused 7 (b-at 1))
+    ∷ nodes-give (num 7 ∷ copy 1 0 ∷ []) (refused 7 (a-at 1))
+    ∷ nodes-give (num 7 ∷ copy 0 1 ∷ []) (refused 7 (b-at 1))
     -- "a place where a value belongs or the reverse"
     ∷ nodes-give (var 0 ∷ deref 0 ∷ []) (refused 7 (a-at 1))
     ∷ nodes-give (var 3 ∷ field 0 0 ∷ []) (refused 7 (a-at 1))
@@ -163,7 +171,9 @@ operands =
     ∷ nodes-give (num 0 ∷ address 0 ∷ []) (refused 7 (a-at 1))
     ∷ nodes-give (var 0 ∷ cast 0 0 ∷ []) (refused 7 (a-at 1))
     ∷ nodes-give (var 0 ∷ malloc 0 ∷ []) (refused 7 (a-at 1))
-    -- "Kinds 1 to 3 are places, 4 to 10 values": each as the child that it can't be
+    ∷ nodes-give (var 3 ∷ read 0 ∷ var 3 ∷ copy 2 1 ∷ []) (refused 7 (a-at 3))
+    ∷ nodes-give (var 3 ∷ read 0 ∷ var 3 ∷ copy 1 2 ∷ []) (refused 7 (b-at 3))
+    -- "Kinds 1 to 3 are places, 4 to 10 values", request 6: "kind 11, a value": each as the child that it can't be
     ∷ nodes-give (var 2 ∷ read 0 ∷ deref 1 ∷ cast 2 0 ∷ []) (refused 7 (a-at 3))
     ∷ nodes-give (var 3 ∷ read 0 ∷ field 1 0 ∷ cast 2 0 ∷ []) (refused 7 (a-at 3))
     ∷ nodes-give (num 1 ∷ num 2 ∷ sum 0 1 ∷ read 2 ∷ []) (refused 7 (a-at 3))
@@ -172,6 +182,7 @@ operands =
     ∷ nodes-give (num 0 ∷ cast 0 0 ∷ read 1 ∷ []) (refused 7 (a-at 2))
     ∷ nodes-give (size 0 ∷ read 0 ∷ []) (refused 7 (a-at 1))
     ∷ nodes-give (num 0 ∷ malloc 0 ∷ read 1 ∷ []) (refused 7 (a-at 2))
+    ∷ copies 3 3 (read 4 ∷ []) (refused 7 (a-at 5))
     -- "unused b not 0"
     ∷ nodes-give (num 7 ∷ node 1 0 1 ∷ []) (refused 7 (b-at 1))
     ∷ nodes-give (var 2 ∷ read 0 ∷ node 2 1 1 ∷ []) (refused 7 (b-at 2))
@@ -186,11 +197,14 @@ operands =
     ∷ nodes-give (num 7 ∷ size 65538 ∷ []) (refused 5 (a-at 1))
     ∷ nodes-give (num 7 ∷ cast 0 6 ∷ []) (refused 5 (b-at 1))
     ∷ nodes-give (num 7 ∷ cast 0 65536 ∷ []) (refused 5 (b-at 1))
+    -- request 6: "Kind 11 is no longer unknown", so 01's former example is at fault in its a
+    ∷ gives (0 ∷ 0 ∷ 0 ∷ 0 ∷ 1 ∷ 11 ∷ 0 ∷ 0 ∷ 0 ∷ []) (refused 7 6)
     -- "in a node kind, a, b"
-    ∷ nodes-give (num 7 ∷ node 11 9 9 ∷ []) (refused 7 (kind-at 1))
+    ∷ nodes-give (num 7 ∷ node 12 9 9 ∷ []) (refused 7 (kind-at 1))
     ∷ nodes-give (num 7 ∷ node 1 5 1 ∷ []) (refused 7 (a-at 1))
     ∷ nodes-give (var 0 ∷ sum 0 1 ∷ []) (refused 7 (a-at 1))
     ∷ nodes-give (var 0 ∷ cast 0 6 ∷ []) (refused 7 (a-at 1))
+    ∷ nodes-give (num 7 ∷ copy 9 9 ∷ []) (refused 7 (a-at 1))
     ∷ nodes-give (num 7 ∷ node 9 6 1 ∷ []) (refused 5 (a-at 1))
     ∷ []
 
@@ -235,11 +249,45 @@ node-types =
     -- "a, b (7 or 5), then 8"
     ∷ nodes-give (num 7 ∷ node 2 0 1 ∷ []) (refused 7 (b-at 1))
     -- "word by word in table order": the lower node first
-    ∷ nodes-give (num 7 ∷ deref 0 ∷ node 11 0 0 ∷ []) (refused 8 (kind-at 1))
+    ∷ nodes-give (num 7 ∷ deref 0 ∷ node 12 0 0 ∷ []) (refused 8 (kind-at 1))
     ∷ nodes-give (num 7 ∷ node 4 0 1 ∷ deref 0 ∷ []) (refused 7 (b-at 1))
     -- a variable before a node
-    ∷ gives (types [] [] (0 ∷ 2 ∷ []) ++ section (node 11 0 0 ∷ []) ++ (0 ∷ [])) (refused 5 5)
+    ∷ gives (types [] [] (0 ∷ 2 ∷ []) ++ section (node 12 0 0 ∷ []) ++ (0 ∷ [])) (refused 5 5)
     ∷ []
+
+-- A record of one int, with these pointers, variables and nodes, and no command.
+abbrev one-record : Words → Words → List Words → Words
+one-record ps vs ns = types ((of-type 0 1 ∷ []) ∷ []) ps vs ++ section ns ++ (0 ∷ [])
+
+-- Variable i copied to from each of these: refused.
+abbrev unfit : ℕ → List ℕ → List Judgement
+unfit i js = map (λ j. copies i j [] (refused 8 (kind-at 4))) js
+
+unfoldable pub copy-types : List Judgement
+copy-types =
+    -- "a and b are pointers to the same record type": no two variables but 3 and 3, 4 and 4; "8 also where the two pointer types differ or don't point
+    -- to a record"
+    unfit 0 (0 ∷ 1 ∷ 2 ∷ 3 ∷ 4 ∷ [])
+    ++ unfit 1 (0 ∷ 1 ∷ 2 ∷ 3 ∷ 4 ∷ [])
+    ++ unfit 2 (0 ∷ 1 ∷ 2 ∷ 3 ∷ 4 ∷ [])
+    ++ unfit 3 (0 ∷ 1 ∷ 2 ∷ 4 ∷ [])
+    ++ unfit 4 (0 ∷ 1 ∷ 2 ∷ 3 ∷ [])
+    ++ (copies 3 3 [] (refused 9 (kind-at 4))
+    ∷ copies 4 4 [] (refused 9 (kind-at 4))
+    -- two of int**; where entry 0 is a record's, two ints, two of void* and two pointers to a pointer to it
+    ∷ nodes-give (var 2 ∷ address 0 ∷ var 2 ∷ address 2 ∷ copy 1 3 ∷ []) (refused 8 (kind-at 4))
+    ∷ gives (one-record (65536 ∷ []) [] (num 7 ∷ num 8 ∷ copy 0 1 ∷ [])) (refused 8 15)
+    ∷ gives (one-record (65536 ∷ []) [] (num 7 ∷ malloc 0 ∷ num 8 ∷ malloc 2 ∷ copy 1 3 ∷ [])) (refused 8 21)
+    ∷ gives (one-record (65536 ∷ 2 ∷ []) (3 ∷ []) (var 0 ∷ read 0 ∷ var 0 ∷ read 2 ∷ copy 1 3 ∷ [])) (refused 8 23)
+    -- "a value of type int": it isn't followed, has no field and is no pointer to copy by; it is a count to obtain, and added to a pointer
+    ∷ copies 3 3 (deref 4 ∷ []) (refused 8 (kind-at 5))
+    ∷ copies 3 3 (field 4 0 ∷ []) (refused 8 (kind-at 5))
+    ∷ copies 3 3 (var 3 ∷ read 5 ∷ copy 4 6 ∷ []) (refused 8 (kind-at 7))
+    ∷ copies 3 3 (malloc 4 ∷ []) (refused 9 (kind-at 5))
+    ∷ copies 3 3 (var 3 ∷ read 5 ∷ sum 6 4 ∷ []) (refused 9 (kind-at 7))
+    -- "word by word in table order"
+    ∷ copies 2 3 (node 12 0 0 ∷ []) (refused 8 (kind-at 4))
+    ∷ [])
 
 -- ---- 7 and 8 in commands, and 9
 
@@ -276,6 +324,10 @@ commands-and-uses =
     ∷ commands-give (assign 0 3 ∷ assign 2 5 ∷ []) (refused 8 (place-at 1))
     ∷ commands-give (assign 0 3 ∷ assign 1 7 ∷ []) (refused 8 (place-at 1))
     ∷ commands-give (assign 0 7 ∷ []) (refused 8 (place-at 0))
+    -- a copy is an int, and no pointer to the record or to void
+    ∷ uses-give (var 0 ∷ var 3 ∷ read 1 ∷ var 3 ∷ read 3 ∷ copy 2 4 ∷ []) (assign 0 5 ∷ []) passes
+    ∷ uses-give (var 3 ∷ var 3 ∷ read 1 ∷ var 3 ∷ read 3 ∷ copy 2 4 ∷ []) (assign 0 5 ∷ []) (refused 8 41)
+    ∷ uses-give (var 1 ∷ var 4 ∷ read 1 ∷ var 4 ∷ read 3 ∷ copy 2 4 ∷ []) (assign 0 5 ∷ []) (refused 8 41)
     -- "in a command its two words (7), then 8"; the lower command first
     ∷ commands-give (assign 3 2 ∷ []) (refused 7 (place-at 0))
     ∷ commands-give (assign 2 0 ∷ []) (refused 7 (value-at 0))
@@ -287,10 +339,11 @@ commands-and-uses =
     ∷ uses-give (var 0 ∷ num 7 ∷ num 8 ∷ []) (assign 0 1 ∷ []) (refused 9 (kind-at 2))
     ∷ uses-give (var 0 ∷ num 7 ∷ num 8 ∷ num 9 ∷ var 0 ∷ []) (assign 0 1 ∷ []) (refused 9 (kind-at 2))
     ∷ uses-give (num 8 ∷ var 0 ∷ num 7 ∷ []) (assign 1 2 ∷ assign 1 9 ∷ []) (refused 7 35)
-    -- twice by a node and a command, by two nodes, by one sum, by two commands as value and as place, three times
+    -- twice by a node and a command, by two nodes, by one sum, by one copy, by two commands as value and as place, three times
     ∷ uses-give (var 0 ∷ num 7 ∷ var 0 ∷ cast 1 0 ∷ []) (assign 0 1 ∷ assign 2 3 ∷ []) (refused 9 (kind-at 1))
     ∷ uses-give (var 0 ∷ num 7 ∷ cast 1 0 ∷ var 0 ∷ cast 1 0 ∷ []) (assign 0 2 ∷ assign 3 4 ∷ []) (refused 9 (kind-at 1))
     ∷ uses-give (var 0 ∷ num 7 ∷ sum 1 1 ∷ []) (assign 0 2 ∷ []) (refused 9 (kind-at 1))
+    ∷ uses-give (var 0 ∷ var 3 ∷ read 1 ∷ copy 2 2 ∷ []) (assign 0 3 ∷ []) (refused 9 (kind-at 2))
     ∷ uses-give (var 0 ∷ num 7 ∷ var 0 ∷ []) (assign 0 1 ∷ assign 2 1 ∷ []) (refused 9 (kind-at 1))
     ∷ uses-give (num 7 ∷ num 8 ∷ var 0 ∷ []) (assign 2 0 ∷ assign 2 1 ∷ []) (refused 9 (kind-at 2))
     ∷ uses-give (var 0 ∷ num 7 ∷ sum 1 1 ∷ sum 2 1 ∷ []) (assign 0 3 ∷ []) (refused 9 (kind-at 1))

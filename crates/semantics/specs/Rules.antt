@@ -1,11 +1,11 @@
--- Document 01, "Steps", over trees. All sums are exact but for that of a Sum.
-use Prim.Native.Nat.{ℕ, _+_, _*_, _-_, _%_}
+-- Document 01, "Steps", and request 6's copy, over trees. All sums are exact but for that of a Sum.
+use Prim.Native.Nat.{ℕ, zero, suc, _+_, _*_, _-_, _%_}
 use mathlib.Core.Bool.{Bool, true, false, _&&_}
 use mathlib.Core.List.{List, _∷_}
 use lib.ListN.{length, set}
 use lib.Dec.{leb, ltb, eqb}
-use Rattle.semantics.specs.Words.{Words, word, zeroed, if_then_else_}
-use Rattle.semantics.specs.Syntax.{Place, Variable, Deref, Field, NoPlace, Value, Number, Sum, Read, Address, Cast, Malloc, NoValue}
+use Rattle.semantics.specs.Words.{Words, word, zeroed, moved, all-below, if_then_else_}
+use Rattle.semantics.specs.Syntax.{Place, Variable, Deref, Field, NoPlace, Value, Number, Sum, Read, Address, Cast, Malloc, Copy, NoValue}
 
 -- A value with its bounds [base, end). "A word with base 0 and end 0 has no bounds."
 pub record Datum : Type 0 where
@@ -31,7 +31,7 @@ pub record Location : Type 0 where
   pub end : ℕ
   pub access : Access
 
--- A check that a follow or a field makes: its node, the place and the number of words wanted, and the bounds of the pointer followed.
+-- A check that a follow, a field or a copy makes: its node, the place and the number of words wanted, and the bounds of the pointer followed.
 pub record Bounds-check : Type 0 where
   pub node : ℕ
   pub at : ℕ
@@ -97,10 +97,16 @@ checked n p w k l s =
     let x = check-of n p w k in
     if enough-left p w k then ok l (noted (tested x) s) else fails x (noted (tested x) s)
 
+-- The place that a pointer points to, with the pointer's bounds; and that place checked for k words.
+abbrev pub pointed : Datum → Location
+pointed p = record { at = p .value; base = p .base; end = p .end; access = followed p }
+
+abbrev pub pointed-step : ℕ → ℕ → Datum → State → Outcome Location
+pointed-step n k p s = checked n p (p .value) k (pointed p) s
+
 -- "Follow: a pointer v with bounds [b, e) passes when b ≤ v and v + 1 ≤ e. The place is v and keeps [b, e)"
 unfoldable pub deref-step : ℕ → Datum → State → Outcome Location
-deref-step n p s =
-    checked n p (p .value) 1 (record { at = p .value; base = p .base; end = p .end; access = followed p }) s
+deref-step n p s = pointed-step n 1 p s
 
 -- "Field: with w = v + offset and k the field's count, it passes when b ≤ w and w + k ≤ e. The place is w with bounds [w, w + k)."
 unfoldable pub field-step : ℕ → ℕ → ℕ → Datum → State → Outcome Location
@@ -155,6 +161,32 @@ malloc-step x s =
     ok (block-pointer (s .unused) (x .value)) (with-block (x .value) s) else
     no-room s
 
+-- One event for each of k words, e 0 the oldest.
+unfoldable pub each-noted : ℕ → (ℕ → Event) → List Event → List Event
+each-noted zero e log = log
+each-noted (suc k) e log = e k ∷ each-noted k e log
+
+-- Request 6: "The words at b go to a, with value, base and end, as they were before the copy, even where the two overlap." All are read, then all
+-- are written: "for a word read the pointer followed is b, for a word written it is a."
+abbrev pub with-copy : ℕ → Location → Location → State → State
+with-copy k a b s =
+    record {
+      values = moved (s .values) (a .at) (b .at) k;
+      bases = moved (s .bases) (a .at) (b .at) k;
+      ends = moved (s .ends) (a .at) (b .at) k;
+      unused = s .unused;
+      log = each-noted k (λ i. stored (a .at + i) (a .access)) (each-noted k (λ i. loaded (b .at + i) (b .access)) (s .log));
+    }
+
+-- "The result is the number of words, without bounds." A word that may not be read or assigned has no rule here either.
+unfoldable pub move-step : ℕ → Location → Location → State → Outcome Datum
+move-step k a b s =
+    if all-below k (λ i. touchable s (b .at + i) && touchable s (a .at + i)) then ok (unbounded k) (with-copy k a b s) else no-rule s
+
+-- "Both are evaluated, then a's place is checked for the record's size, then b's; the explaining tool names kind 11's node for either."
+unfoldable pub copy-step : ℕ → ℕ → Datum → Datum → State → Outcome Datum
+copy-step n k p q s = bind (pointed-step n k p s) (λ a s′. bind (pointed-step n k q s′) (move-step k a))
+
 -- "Evaluation is a cycle: a place may need a value worked out first, and a value may need a place. Child a goes before child b"
 unfoldable mutual
   pub place-at : Place → State → Outcome Location
@@ -170,6 +202,7 @@ unfoldable mutual
   value-at (Address n p) s = bind (place-at p s) address-step
   value-at (Cast n keeps v) s = bind (value-at v s) (cast-step keeps)
   value-at (Malloc n v) s = bind (value-at v s) malloc-step
+  value-at (Copy n k a b) s = bind (value-at a s) (λ p s′. bind (value-at b s′) (copy-step n k p))
   value-at NoValue s = no-rule s
 
 -- "Assign: a pointer type stores value, base and end; int stores the value only, and the word's base and end stay."

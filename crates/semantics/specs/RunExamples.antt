@@ -18,7 +18,7 @@ two-records =
     ∷ (of-type 0 4 ∷ of-type 2 1 ∷ of-type 0 2 ∷ [])
     ∷ []
 
-abbrev targets : Words
+abbrev pub targets : Words
 targets = 0 ∷ 2 ∷ 65537 ∷ 65536 ∷ 1 ∷ []
 
 abbrev pub int : ℕ
@@ -30,7 +30,7 @@ void* = 1
 abbrev pub int* : ℕ
 int* = 2
 
-abbrev int** : ℕ
+abbrev pub int** : ℕ
 int** = 3
 
 abbrev pub record-1* : ℕ

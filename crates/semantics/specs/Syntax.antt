@@ -5,7 +5,7 @@ use mathlib.Core.Bool.{Bool, _&&_}
 use mathlib.Core.List.{List}
 use lib.ListN.{getD}
 use Rattle.semantics.specs.Words.{Words, if_then_else_, grow}
-use Rattle.semantics.specs.Table.{is-pointer, target, points-to-record, pointed-record, field-offset, field-count, size-of, Kind, variable, deref, field, constant, sum, read, address, cast, size, malloc, unknown, node-kind, node-a, node-b, node-type}
+use Rattle.semantics.specs.Table.{is-pointer, target, points-to-record, pointed-record, field-offset, field-count, size-of, Kind, variable, deref, field, constant, sum, read, address, cast, size, malloc, copy, unknown, node-kind, node-a, node-b, node-type}
 
 -- Each constructor begins with its node's number.
 mutual
@@ -26,6 +26,8 @@ mutual
     -- keeps: whether bounds are kept, from pointer to pointer
     Cast : (node : ℕ) (keeps : Bool) → Value → Value
     Malloc : (node : ℕ) → Value → Value
+    -- words: of the record, from the second value to the first
+    Copy : (node words : ℕ) → Value → Value → Value
     NoValue : Value
 
 -- The tree of a node, or none where the node makes no sense.
@@ -62,6 +64,7 @@ tree-by-kind t n address a b tree = value (Address n (as-place (tree a)))
 tree-by-kind t n cast a b tree = value (Cast n (is-pointer (node-type t a) && is-pointer b) (as-value (tree a)))
 tree-by-kind t n size a b tree = value (Number n (size-of t a))
 tree-by-kind t n malloc a b tree = value (Malloc n (as-value (tree a)))
+tree-by-kind t n copy a b tree = value (Copy n (size-of t (target t (node-type t a))) (as-value (tree a)) (as-value (tree b)))
 tree-by-kind t n unknown a b tree = senseless
 
 -- The tree of node n, from the trees of the nodes before it: a child that isn't before it has none.

@@ -109,12 +109,12 @@ field-offset t r f = sum-below f (field-count t r)
 unfoldable pub size-of : Words → ℕ → ℕ
 size-of t x = if ltb x (record-target 0) then 1 else field-offset t (x - record-target 0) (field-total t (x - record-target 0))
 
--- Kinds 1 to 10, and every other word. Document 01 calls deref follow, and malloc obtain.
+-- Kinds 1 to 11, and every other word. Document 01 calls deref follow, and malloc obtain. Kind 11 is request 6's.
 pub data Kind : Type 0 where
-  variable deref field constant sum read address cast size malloc unknown : Kind
+  variable deref field constant sum read address cast size malloc copy unknown : Kind
 
 abbrev pub kinds : List Kind
-kinds = unknown ∷ variable ∷ deref ∷ field ∷ constant ∷ sum ∷ read ∷ address ∷ cast ∷ size ∷ malloc ∷ []
+kinds = unknown ∷ variable ∷ deref ∷ field ∷ constant ∷ sum ∷ read ∷ address ∷ cast ∷ size ∷ malloc ∷ copy ∷ []
 
 unfoldable pub kind-of : ℕ → Kind
 kind-of w = getD kinds w unknown
@@ -134,7 +134,7 @@ pub record Row : Type 0 where
 abbrev row : Sort → Operand → Operand → Row
 row s a b = record { sort = s; a = a; b = b }
 
--- "Kinds 1 to 3 are places, 4 to 10 values." "A node's kind decides what its two other words mean. An unused b is 0."
+-- "Kinds 1 to 3 are places, 4 to 10 values." Request 6: "Add kind 11, a value". "A node's kind decides what its two other words mean. An unused b is 0."
 abbrev pub row-of : Kind → Row
 row-of variable = row place variable-number unused
 row-of deref = row place value-child unused
@@ -146,6 +146,7 @@ row-of address = row value place-child unused
 row-of cast = row value value-child type-word
 row-of size = row value target-word unused
 row-of malloc = row value value-child unused
+row-of copy = row value value-child value-child
 row-of unknown = row neither any-word any-word
 
 abbrev pub sort-of : Kind → Sort
@@ -180,7 +181,8 @@ child value-child x = x ∷ []
 unfoldable pub children : Words → ℕ → Words
 children t n = child (operand-a (node-kind t n)) (node-a t n) ++ child (operand-b (node-kind t n)) (node-b t n)
 
--- The last column of document 01's table: the type of a node of this kind with these two other words, from the types of its children.
+-- The last column of document 01's table, and request 6's "a value of type int": the type of a node of this kind with these two other words, from
+-- the types of its children.
 abbrev pub type-by-kind : Words → Kind → ℕ → ℕ → (ℕ → ℕ) → ℕ
 type-by-kind t variable a b type = item t variables a 0
 type-by-kind t deref a b type = target t (type a)
@@ -192,6 +194,7 @@ type-by-kind t address a b type = entry-type (entry-below t (count t pointers) (
 type-by-kind t cast a b type = b
 type-by-kind t size a b type = int
 type-by-kind t malloc a b type = void-pointer
+type-by-kind t copy a b type = int
 type-by-kind t unknown a b type = int
 
 -- The type of node n, from the types of the nodes before it: a child that isn't before it counts as an int.

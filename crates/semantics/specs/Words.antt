@@ -1,6 +1,6 @@
--- Lists of words, and the ways in which the definitions go over numbers: a sum, any, the least, a list that grows.
+-- Lists of words, and the ways in which the definitions go over numbers: a sum, any, all, the least, a list that grows.
 use Prim.Native.Nat.{ℕ, zero, suc, _+_}
-use mathlib.Core.Bool.{Bool, true, false, _||_}
+use mathlib.Core.Bool.{Bool, true, false, _&&_, _||_}
 use mathlib.Core.List.{List, [], _∷_, _++_}
 use lib.ListN.{getD, replicate}
 use lib.Seq.{sets}
@@ -33,6 +33,11 @@ unfoldable pub any-below : ℕ → (ℕ → Bool) → Bool
 any-below zero p = false
 any-below (suc n) p = any-below n p || p n
 
+-- p holds of every number below n.
+unfoldable pub all-below : ℕ → (ℕ → Bool) → Bool
+all-below zero p = true
+all-below (suc n) p = all-below n p && p n
+
 -- f gives for i what it gave for a number before it.
 unfoldable pub seen-before : (ℕ → ℕ) → ℕ → Bool
 seen-before f i = any-below i (λ j. eqb (f j) (f i))
@@ -46,3 +51,12 @@ least-below (suc n) p = if ltb (least-below n p) n then least-below n p else if 
 unfoldable pub grow : {A : Type 0} → (ℕ → List A → A) → ℕ → List A
 grow f zero = []
 grow f (suc n) = grow f n ++ (f n (grow f n) ∷ [])
+
+-- The n words of a list from `from` on.
+unfoldable pub words-from : Words → (from n : ℕ) → Words
+words-from l from zero = []
+words-from l from (suc n) = word l from ∷ words-from l (suc from) n
+
+-- A list whose n words from `from` on stand from `to` on as well, as they were before.
+unfoldable pub moved : Words → (to from n : ℕ) → Words
+moved l to from n = sets l to (words-from l from n)

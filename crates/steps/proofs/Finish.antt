@@ -11,14 +11,16 @@ use lib.ListN.{length}
 use Rattle.words.specs.Columns.{column}
 use Rattle.semantics.specs.Words.{Words, word}
 use Rattle.semantics.specs.Table.{is-pointer}
-use Rattle.semantics.specs.Rules.{Datum, unbounded, Location, variable-location, Event, allocated, tested, State, Outcome, ok, bind, words-left, enough-left, checked, deref-step, field-step, touchable, contents, read-step, sum-step, cast-step, malloc-step}
+use Rattle.semantics.specs.Rules.{Datum, unbounded, Location, variable-location, Event, loaded, stored, allocated, tested, State, Outcome, ok, bind, words-left, enough-left, check-of, checked, pointed, deref-step, field-step, touchable, contents, read-step, sum-step, cast-step, malloc-step, with-copy, copy-step}
 use Rattle.semantics.specs.Explain.{block-start}
-use Rattle.semantics.proofs.Tests.{words-are-left, left-inside}
+use Rattle.semantics.proofs.Tests.{words-are-left, left-inside, check-enough}
 use Rattle.semantics.proofs.Invariant.{Inv, permitted-used, Location-ok, Good, good-ok}
-use Rattle.semantics.proofs.Steps.{block-clear}
-use Rattle.semantics.proofs.Starts.{start-newest, start-older}
+use Rattle.semantics.proofs.Steps.{block-clear, copy-done}
+use Rattle.semantics.proofs.Lists.{moved-length}
+use Rattle.semantics.proofs.Blocks.{loaded-no-block, stored-no-block}
+use Rattle.semantics.proofs.Starts.{start-each, start-newest, start-older}
 use Rattle.steps.proofs.Slots.{Raised}
-use Rattle.steps.specs.Answers.{slots, base-slot, end-slot, unused-slot, limit-slot, found-slot, failed, full, state-of, check-in, Datum-is, Location-is, Watches, waiting, seen, Answers, answers-ok, answers-failed, answers-full, Kept, Given, Bounded, Told, Reserved, below-limit, past-limit, no-words, Finishes, Deref-finishes, Field-finishes, Sum-finishes, Load-finishes, Cast-finishes, Malloc-finishes}
+use Rattle.steps.specs.Answers.{slots, base-slot, end-slot, unused-slot, limit-slot, found-slot, failed, full, state-of, check-in, Datum-is, Location-is, Watches, waiting, seen, Answers, answers-ok, answers-failed, answers-full, Kept, Given, Bounded, Told, Reserved, below-limit, past-limit, no-words, Moved, Inside, Finishes, Deref-finishes, Field-finishes, Sum-finishes, Load-finishes, Cast-finishes, Malloc-finishes, Copy-finishes}
 
 -- ---- bounds
 
@@ -63,23 +65,24 @@ all-kept s = record { unused = refl; limit = refl; found = refl }
 
 -- ---- a child's answer: evaluation has ended there, or it goes on
 
+ended-on : {A B : Type 0} {Child : A → ℕ → Words → Type 0} {Node : B → ℕ → Words → Type 0} (f : A → State → Outcome B) {m : List Words} {v w : ℕ} {s : Words} {o : Outcome A} → failed ≤ v
+    → Answers Child w m v s o → Answers Node w m v s (bind o f)
+ended-on f over (answers-ok x log h small watch) = absurd (omega arith)
+ended-on f over (answers-failed log h watch) = answers-failed log h watch
+ended-on f over (answers-full log h) = answers-full log h
+
 module _ {A B : Type 0} {Child : A → ℕ → Words → Type 0} {Ok : ℕ → A → State → Type 0} {Node : B → ℕ → Words → Type 0} where
   -- The slots go on with it.
-  pub passed-on : (f : A → State → Outcome B) {m : List Words} {v : ℕ} {s : Words} → length s ≡ slots → failed ≤ v → Finishes Child Ok Node f m v s v s
-  passed-on f {m} {v} {s} room over = record { room = room; meets = λ vars len w s₀ o a g. on a }
-    where
-      on : {w : ℕ} {o : Outcome A} → Answers Child w m v s o → Answers Node w m v s (bind o f)
-      on (answers-ok x log h small watch) = absurd (omega arith)
-      on (answers-failed log h watch) = answers-failed log h watch
-      on (answers-full log h) = answers-full log h
+  pub passed-on : (f : A → State → Outcome B) {m : List Words} {v : ℕ} {s : Words} → length s ≡ slots → failed ≤ v → Finishes Child Ok Node f m v s v m s
+  passed-on f room over = record { room = room; meets = λ vars len w s₀ o a g. ended-on f over a }
 
-  pub goes-on : (f : A → State → Outcome B) {m : List Words} {v r : ℕ} {s s′ : Words} → length s′ ≡ slots → v < failed
+  pub goes-on : (f : A → State → Outcome B) {m m′ : List Words} {v r : ℕ} {s s′ : Words} → length s′ ≡ slots → v < failed
       → ((vars len w : ℕ) (x : A) (log : List Event) → Child x v s → Watches w (length (column m 0)) s log → Inv vars len (state-of m (word s unused-slot) log)
-      → Ok vars x (state-of m (word s unused-slot) log) → Answers Node w m r s′ (f x (state-of m (word s unused-slot) log)))
-      → Finishes Child Ok Node f m v s r s′
-  goes-on f {m} {v} {r} {s} {s′} room under k = record { room = room; meets = λ vars len w s₀ o a g. on vars len w a g }
+      → Ok vars x (state-of m (word s unused-slot) log) → Answers Node w m′ r s′ (f x (state-of m (word s unused-slot) log)))
+      → Finishes Child Ok Node f m v s r m′ s′
+  goes-on f {m} {m′} {v} {r} {s} {s′} room under k = record { room = room; meets = λ vars len w s₀ o a g. on vars len w a g }
     where
-      on : (vars len w : ℕ) {s₀ : State} {o : Outcome A} → Answers Child w m v s o → Good vars len s₀ (Ok vars) o → Answers Node w m r s′ (bind o f)
+      on : (vars len w : ℕ) {s₀ : State} {o : Outcome A} → Answers Child w m v s o → Good vars len s₀ (Ok vars) o → Answers Node w m′ r s′ (bind o f)
       on vars len w (answers-ok x log h small watch) (good-ok inv later fine) = k vars len w x log h watch inv fine
       on vars len w (answers-failed log h watch) g = absurd (omega arith)
       on vars len w (answers-full log h) g = absurd (omega arith)
@@ -240,3 +243,59 @@ module _ {len v : ℕ} {m : List Words} {s : Words} (all : length (column m 0) �
       (λ vars l w x log i watch inv fine.
       rw (ne-eqb (x .value) 0 (λ z. some (sym (i .value) ∙ z)), i .value, lt-leb (word s unused-slot + v) (length (column m 0)) (omega arith))
       (answers-full log h)))
+
+-- ---- copies
+
+pub told-of : {n n′ w k : ℕ} {s s′ : Words} → n ≡ n′ → Told n w k s s′ → Told n′ w k s s′
+told-of e t = rw e at t
+
+pub inside-to : {a e : ℕ} {m : List Words} → Inside e m → a ≤ e → Inside a m
+inside-to h less = record { values = omega (arith, h .values); bases = omega (arith, h .bases); ends = omega (arith, h .ends) }
+
+-- The lists with the words moved are those of the state after the copy, and no block of the log is another.
+copy-answer : {w r : ℕ} {m m′ : List Words} {s s′ : Words} (k : ℕ) (a b : Location) (log : List Event) → Moved (a .at) (b .at) k m m′ → Given Datum-is (unbounded k) s r s′
+    → Watches w (length (column m 0)) s log → Answers Datum-is w m′ r s′ (ok (unbounded k) (with-copy k a b (state-of m (word s unused-slot) log)))
+copy-answer {w} {r} {m} {m′} {s} {s′} k a b log mv h watch =
+    rw (← (mv .values), ← (mv .bases), ← (mv .ends))
+    (given-ok (unbounded k) _ (h .is) (h .small) (h .kept .unused) (rw (mv .values, moved-length (column m 0) (a .at) (b .at) k) (watches-on (h .kept) blocks watch)))
+  where
+    blocks : block-start (with-copy k a b (state-of m (word s unused-slot) log) .log) w ≡ block-start log w
+    blocks =
+        start-each (λ i. stored (a .at + i) (a .access)) k _ w (λ i. stored-no-block _ _)
+        ∙ start-each (λ i. loaded (b .at + i) (b .access)) k log w (λ i. loaded-no-block _ _)
+
+left-of : {v b e x : ℕ} (p : Datum) → p .value ≡ v → p .base ≡ b → p .end ≡ e → x ≡ words-left b e v → words-left (p .base) (p .end) (p .value) ≡ x
+left-of p hv hb he left = rw (hv, hb, he) (sym left)
+
+-- The left operand is p: its value v and its bounds [b, e) leave x words. The right one is w, with bounds in the slots s, and leaves y words.
+module _ {v b e w x : ℕ} {m : List Words} {s : Words} (n k : ℕ) (p : Datum) (hv : p .value ≡ v) (hb : p .base ≡ b) (he : p .end ≡ e) (under : w < failed) (left : x ≡ words-left b e v) where
+  -- Too few for the left one: the slots s₁ have its bounds.
+  pub copy-to-short : {r : ℕ} {s₁ s′ : Words} → x < k → Bounded b e s s₁ → r ≡ failed → Told n v k s₁ s′ → Copy-finishes n k p m w s r m s′
+  unfolding copy-step
+  copy-to-short {s₁ = s₁} {s′ = s′} short set h t =
+      goes-on (copy-step n k p) (t .room) under
+      (λ vars len watched q log i watch inv fine.
+      rw (← (set .kept .unused))
+      (ended-on _ (omega arith)
+      (checked-no p (pointed p) log (rw (left-of p hv hb he left) short) h (subst (λ a. Told n a k s₁ s′) (sym hv) t) (hb ∙ sym (set .base)) (he ∙ sym (set .end)) (watches-on (set .kept) refl watch))))
+
+  module _ {y : ℕ} (enough : k ≤ x) (right : y ≡ words-left (word s base-slot) (word s end-slot) w) where
+    -- Enough for the left one, and too few for the right one.
+    pub copy-from-short : {r : ℕ} {s′ : Words} → y < k → r ≡ failed → Told n w k s s′ → Copy-finishes n k p m w s r m s′
+    unfolding copy-step block-start
+    copy-from-short {s′ = s′} short h t =
+        goes-on (copy-step n k p) (t .room) under
+        (λ vars len watched q log i watch inv fine.
+        rw (check-enough n p (p .value) k (pointed p) (state-of m (word s unused-slot) log) (rw (left-of p hv hb he left) enough))
+        (ended-on _ (omega arith)
+        (checked-no q (pointed q) (tested (check-of n p (p .value) k) ∷ log) (rw (same-left i (i .value), ← right) short) h (subst (λ a. Told n a k s s′) (sym (i .value)) t) (i .base) (i .end)
+        (watches-on (all-kept s) refl watch))))
+
+    -- Enough for both: the words are moved.
+    pub copy-made : {r : ℕ} {m′ : List Words} {s′ : Words} → 1 ≤ k → k ≤ y → Moved v w k m m′ → Given Datum-is (unbounded k) s r s′ → Copy-finishes n k p m w s r m′ s′
+    unfolding block-start
+    copy-made some enough-right mv h =
+        goes-on (copy-step n k p) (h .room) under
+        (λ vars len watched q log i watch inv fine.
+        rw (copy-done n k p q _ some inv (fine .left) (fine .right) (rw (left-of p hv hb he left) enough) (rw (same-left i (i .value), ← right) enough-right))
+        (copy-answer {m = m} k (pointed p) (pointed q) _ (rw (hv, i .value) mv) h (watches-on (all-kept s) refl watch)))

@@ -6,9 +6,9 @@ use mathlib.Core.Path.{_≡_}
 use mathlib.Core.List.{List}
 use lib.ListN.{length}
 use Rattle.words.specs.Columns.{column}
-use Rattle.semantics.specs.Words.{Words, word}
+use Rattle.semantics.specs.Words.{Words, word, moved}
 use Rattle.semantics.specs.Table.{is-pointer}
-use Rattle.semantics.specs.Rules.{Datum, Location, Bounds-check, Event, State, Outcome, ok, fails, no-room, bind, deref-step, field-step, sum-step, read-step, cast-step, malloc-step}
+use Rattle.semantics.specs.Rules.{Datum, Location, Bounds-check, Event, State, Outcome, ok, fails, no-room, bind, deref-step, field-step, sum-step, read-step, cast-step, malloc-step, copy-step}
 use Rattle.semantics.specs.Explain.{block-start}
 use Rattle.semantics.proofs.Invariant.{Inv, Datum-ok, Location-ok, Good}
 use Rattle.steps.specs.declared.FailedCheck.{FailedCheck}
@@ -146,30 +146,52 @@ pub data Reserved (top len : ℕ) (s s′ : Words) : Bool → Type 0 where
       → word s′ found-slot ≡ word s unused-slot → Reserved top len s s′ true
   no-words : len < top → s′ ≡ s → Reserved top len s s′ false
 
--- A node is finished, over the lists m, by the rules' step f: where its child's outcome was answered by v with the slots s, the node's is
--- answered by r with s′. That the child's outcome is good is what the invariant gives; s₀ is the state that the child began with.
-pub record Finishes {A B : Type 0} (Child : A → ℕ → Words → Type 0) (Ok : ℕ → A → State → Type 0) (Node : B → ℕ → Words → Type 0)
-    (f : A → State → Outcome B) (m : List Words) (v : ℕ) (s : Words) (r : ℕ) (s′ : Words) : Type 0 where
-  pub room : length s′ ≡ slots
-  pub meets : (vars len w : ℕ) (s₀ : State) (o : Outcome A) → Answers Child w m v s o → Good vars len s₀ (Ok vars) o → Answers Node w m r s′ (bind o f)
+-- The lists m′ are the lists m with n words of each moved.
+pub record Moved (to from n : ℕ) (m m′ : List Words) : Type 0 where
+  pub values : column m′ 0 ≡ moved (column m 0) to from n
+  pub bases : column m′ 1 ≡ moved (column m 1) to from n
+  pub ends : column m′ 2 ≡ moved (column m 2) to from n
 
--- What each function that finishes a node answers, from what its child answered.
+-- Words up to e lie in all three lists.
+pub record Inside (e : ℕ) (m : List Words) : Type 0 where
+  pub values : e ≤ length (column m 0)
+  pub bases : e ≤ length (column m 1)
+  pub ends : e ≤ length (column m 2)
+
+-- A node is finished, over the lists m, by the rules' step f: where its child's outcome was answered by v with the slots s, the node's is
+-- answered by r with s′, and with the lists m′. That the child's outcome is good is what the invariant gives; s₀ is the state that the child began
+-- with.
+pub record Finishes {A B : Type 0} (Child : A → ℕ → Words → Type 0) (Ok : ℕ → A → State → Type 0) (Node : B → ℕ → Words → Type 0)
+    (f : A → State → Outcome B) (m : List Words) (v : ℕ) (s : Words) (r : ℕ) (m′ : List Words) (s′ : Words) : Type 0 where
+  pub room : length s′ ≡ slots
+  pub meets : (vars len w : ℕ) (s₀ : State) (o : Outcome A) → Answers Child w m v s o → Good vars len s₀ (Ok vars) o → Answers Node w m′ r s′ (bind o f)
+
+-- What each function that finishes a node answers, from what its child answered. All but a copy leave the lists as they are.
 
 abbrev pub Deref-finishes : ℕ → List Words → ℕ → Words → ℕ → Words → Type 0
-Deref-finishes n = Finishes Datum-is Datum-ok Location-is (deref-step n)
+Deref-finishes n m v s r = Finishes Datum-is Datum-ok Location-is (deref-step n) m v s r m
 
 abbrev pub Field-finishes : ℕ → ℕ → ℕ → List Words → ℕ → Words → ℕ → Words → Type 0
-Field-finishes n offset words = Finishes Datum-is Datum-ok Location-is (field-step n offset words)
+Field-finishes n offset words m v s r = Finishes Datum-is Datum-ok Location-is (field-step n offset words) m v s r m
 
 -- The left operand is p.
 abbrev pub Sum-finishes : ℕ → Datum → List Words → ℕ → Words → ℕ → Words → Type 0
-Sum-finishes step p = Finishes Number-is Datum-ok Datum-is (sum-step step p)
+Sum-finishes step p m v s r = Finishes Number-is Datum-ok Datum-is (sum-step step p) m v s r m
 
 abbrev pub Load-finishes : ℕ → List Words → ℕ → Words → ℕ → Words → Type 0
-Load-finishes pointer = Finishes Place-is Location-ok Datum-is (read-step (is-pointer pointer))
+Load-finishes pointer m v s r = Finishes Place-is Location-ok Datum-is (read-step (is-pointer pointer)) m v s r m
 
 abbrev pub Cast-finishes : List Words → ℕ → Words → ℕ → Words → Type 0
-Cast-finishes = Finishes Number-is Datum-ok Datum-is (cast-step false)
+Cast-finishes m v s r = Finishes Number-is Datum-ok Datum-is (cast-step false) m v s r m
 
 abbrev pub Malloc-finishes : List Words → ℕ → Words → ℕ → Words → Type 0
-Malloc-finishes = Finishes Number-is Datum-ok Datum-is malloc-step
+Malloc-finishes m v s r = Finishes Number-is Datum-ok Datum-is malloc-step m v s r m
+
+-- The bounds of p and of a value beside it are absent or held.
+pub record Both-ok (p : Datum) (vars : ℕ) (x : Datum) (s : State) : Type 0 where
+  pub left : Datum-ok vars p s
+  pub right : Datum-ok vars x s
+
+-- The left operand is p.
+abbrev pub Copy-finishes : ℕ → ℕ → Datum → List Words → ℕ → Words → ℕ → List Words → Words → Type 0
+Copy-finishes n k p = Finishes Datum-is (Both-ok p) Datum-is (copy-step n k p)

@@ -4,12 +4,15 @@
 ghost use mathlib.Core.Path.{_≡_};
 ghost use mathlib.Core.List.{List, [], map};
 ghost use Prim.Native.Nat.{_+_, _*_, _%_, _≤_, _<_, _^_};
+ghost use denote.Ref.{name};
 ghost use lib.ListN.{length};
 ghost use Rattle.words.specs.Columns.{column};
 ghost use Rattle.semantics.specs.Words.{Words, word};
 ghost use Rattle.semantics.specs.Table.{is-pointer};
 ghost use Rattle.semantics.specs.Rules.{Datum, unbounded, variable-location, words-left, contents};
-ghost use Rattle.steps.specs.Answers.{slots, failed, state-of, Datum-is, Location-is, Bounded, Given, Told, Tells, Reserved, Deref-finishes, Field-finishes, Sum-finishes, Load-finishes, Cast-finishes, Malloc-finishes};
+ghost use Rattle.steps.specs.Answers.{slots, failed, state-of, Datum-is, Location-is, Bounded, Given, Told, Tells, Reserved, Moved, Inside, Deref-finishes, Field-finishes, Sum-finishes, Load-finishes, Cast-finishes, Malloc-finishes, Copy-finishes};
+use moves::move_words;
+use words::index;
 use words::long;
 use words::low;
 use words::narrow;
@@ -44,6 +47,13 @@ const WORDS: usize = 6;
 const LIMIT: usize = 7;
 
 const FOUND: usize = 8;
+
+// Where a copy goes, kept while its source is worked out: base and end of the pointer as in the slots, its value, and the copy's node.
+pub type Target = [u32; 4];
+
+pub const VALUE: usize = 2;
+
+const COPY: usize = 3;
 
 // A check that was not passed: its node, the place and the number of words wanted, and the bounds; and the start of the block that has the word
 // watched for, or 0.
@@ -274,4 +284,36 @@ pub fn allocate(v: u64, len: usize, s: &mut Slots) -> u64
         return long(u);
     }
     FULL
+}
+
+// Moves n words of each of the three lists.
+fn move_all(m: &mut Memory, to: usize, from: usize, n: usize)
+    requires { ⌜ (Inside (to + n) (map (λ x. now x) (now m))) × (Inside (from + n) (map (λ x. now x) (now m))) ⌝ }
+    ensures { λ r. ⌜ (Moved to from n (map (λ x. now x) (now (m .entry))) (map (λ x. now x) (now (m .exit)))) × (map (λ x. name x) (now (m .exit)) ≡ map (λ x. name x) (now (m .entry))) ⌝ }
+{
+    move_words(m[VALUES], to, from, n);
+    move_words(m[BASES], to, from, n);
+    move_words(m[ENDS], to, from, n);
+}
+
+// A copy of k words to the left operand, `to`, from the right one, w. The check of the left one comes first.
+pub fn copy(m: &mut Memory, to: &Target, k: u32, w: u64, s: &mut Slots) -> u64
+    requires { ⌜ (1 ≤ k) × (length (now s) ≡ slots) ⌝ }
+    requires { ⌜ (Inside (word (now to) 1) (map (λ x. now x) (now m))) × (w < failed → Inside (word (now s) 1) (map (λ x. now x) (now m))) ⌝ }
+    ensures { λ r. ⌜ ((p : Datum) → p .value ≡ word (now (to .entry)) 2 → p .base ≡ word (now (to .entry)) 0 → p .end ≡ word (now (to .entry)) 1 → Copy-finishes (word (now (to .entry)) 3) k p (map (λ x. now x) (now (m .entry))) w (now (s .entry)) r (map (λ x. now x) (now (m .exit))) (now (s .exit))) × (map (λ x. name x) (now (m .exit)) ≡ map (λ x. name x) (now (m .entry))) ⌝ }
+{
+    if FAILED <= w {
+        return w;
+    }
+    let many = long(k);
+    let v = long(to[VALUE]);
+    if words_left(to[BASE], to[END], v) < many {
+        bound(to[BASE], to[END], s);
+        return fail(index(to[COPY]), v, k, s);
+    }
+    if words_left(s[BASE], s[END], w) < many {
+        return fail(index(to[COPY]), w, k, s);
+    }
+    move_all(m, v as usize, w as usize, index(k));
+    number(k, s)
 }

@@ -8,7 +8,7 @@ use native.Mathlib.Decide.{ℕ-discrete}
 use lib.ListN.{length, set, length-set}
 use lib.Seq.{getD-set-same, getD-set-other}
 use Rattle.semantics.specs.Words.{Words, word, sum-below}
-use Rattle.semantics.specs.Table.{nodes, count, Kind, variable, deref, field, constant, sum, read, address, cast, size, malloc, unknown, operand-a, operand-b, child, node-kind, node-a, node-b, children}
+use Rattle.semantics.specs.Table.{nodes, count, Kind, variable, deref, field, constant, sum, read, address, cast, size, malloc, copy, unknown, operand-a, operand-b, child, node-kind, node-a, node-b, children}
 use Rattle.semantics.specs.Check.{passes, refused, each, node-fault, occurrences}
 use Rattle.semantics.proofs.Passed.{Types-passed}
 use Rattle.layout.specs.Layout.{Stands}
@@ -34,6 +34,7 @@ two-most address a b = omega arith
 two-most cast a b = omega arith
 two-most size a b = omega arith
 two-most malloc a b = omega arith
+two-most copy a b = omega arith
 two-most unknown a b = omega arith
 
 pub few-uses : {t notes used : Words} {n : ℕ} → Nodes-noted t notes used n → (i : ℕ) → word used i ≤ 2 * n

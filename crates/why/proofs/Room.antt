@@ -18,7 +18,7 @@ use Rattle.machine.specs.declared.Explained.{Explained}
 use Rattle.machine.specs.declared.Explained.the-variants.{Refused, Done, Abort, NoRoom}
 use Rattle.why.specs.Ascii.{ascii}
 use Rattle.why.specs.Owners.{owner-of}
-use Rattle.why.specs.Told.{text, either, owner-text, node-text, wanted-text, bounds-text, reason-text, cause-line, ended-line, not-aborted-lines, told-lines}
+use Rattle.why.specs.Told.{text, either, owner-text, kind-text, node-text, wanted-text, bounds-text, reason-text, cause-line, ended-line, not-aborted-lines, told-lines}
 use Rattle.why.specs.declared.Owner.{Owner}
 use Rattle.why.specs.declared.Owner.the-variants.{Variable, Register, Block}
 
@@ -33,9 +33,17 @@ either-room : (b : Bool) (s t : String) {n : ℕ} → item-room (text s) ≤ n �
 either-room true s t h k = h
 either-room false s t h k = k
 
+kind-room : (kind : ℕ) → room-of (kind-text kind) ≤ 11
+unfolding room-of item-room kind-text ascii
+kind-room kind = go (eqb kind 11)
+  where
+    go : (b : Bool) → room-of (if b then text " (a copy)" ∷ [] else either (eqb kind 3) " (a field)" " (a follow)" ∷ []) ≤ 11
+    go true = omega arith
+    go false = omega (arith, either-room (eqb kind 3) " (a field)" " (a follow)" {n = 11} (omega arith) (omega arith))
+
 node-room : (command node kind : ℕ) → room-of (node-text command node kind) ≤ 80
 unfolding room-of item-room node-text ascii
-node-room command node kind = omega (arith, either-room (eqb kind 3) " (a field)" " (a follow)" {n = 11} (omega arith) (omega arith))
+node-room command node kind = omega (arith, kind-room kind)
 
 module _ (x : Cause) where
   wanted-room : room-of (wanted-text x) ≤ 80

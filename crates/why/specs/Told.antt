@@ -34,10 +34,13 @@ owner-text (Variable i) = text "variable " ∷ number i ∷ []
 owner-text (Register i v) = text "register " ∷ number i ∷ text " of variable " ∷ number v ∷ []
 owner-text (Block w) = text "the block at " ∷ number w ∷ []
 
--- "the node". A check is made by a follow, kind 2, or by a field, kind 3.
+-- A check is made by a follow, kind 2, by a field, kind 3, or by a copy, kind 11.
+unfoldable pub kind-text : ℕ → List Item
+kind-text kind = if eqb kind 11 then text " (a copy)" ∷ [] else either (eqb kind 3) " (a field)" " (a follow)" ∷ []
+
+-- "the node"
 unfoldable pub node-text : (command node kind : ℕ) → List Item
-node-text command node kind =
-    text "command " ∷ number command ∷ text ", node " ∷ number node ∷ either (eqb kind 3) " (a field)" " (a follow)" ∷ []
+node-text command node kind = text "command " ∷ number command ∷ text ", node " ∷ number node ∷ kind-text kind
 
 -- "the place wanted, the number of words wanted"
 unfoldable pub wanted-text : Cause → List Item

@@ -26,7 +26,7 @@ ghost use Rattle.machine.specs.Run.{answer-of};
 ghost use Rattle.stream.specs.Items as items;
 ghost use Rattle.stream.specs.Items.{Puts-items};
 ghost use Rattle.why.specs.Owners.{owner-above, owner-of};
-ghost use Rattle.why.specs.Told.{owner-text, node-text, wanted-text, bounds-text, reason-text, cause-line, ended-line, not-aborted-lines, told-lines, Walkable, Tells};
+ghost use Rattle.why.specs.Told.{owner-text, kind-text, node-text, wanted-text, bounds-text, reason-text, cause-line, ended-line, not-aborted-lines, told-lines, Walkable, Tells};
 use words::index;
 use words::long;
 
@@ -93,13 +93,23 @@ fn put_either(out: &mut [u8], at: usize, first: bool, a: &[u8], b: &[u8]) -> usi
     put_bytes(out, at, b)
 }
 
-// Which check it is, made by a field or by a follow.
+// What made the check: a copy, a field or a follow.
+fn put_kind(out: &mut [u8], at: usize, kind: u32) -> usize
+    ensures { λ r. ⌜ Puts-items (kind-text kind) (now (out .entry)) at (now (out .exit)) r ⌝ }
+{
+    if kind == kind::COPY {
+        return put_bytes(out, at, b" (a copy)");
+    }
+    put_either(out, at, kind == kind::FIELD, b" (a field)", b" (a follow)")
+}
+
+// Which check it is.
 fn put_node(out: &mut [u8], at: usize, command: u32, node: u32, kind: u32) -> usize
     ensures { λ r. ⌜ Puts-items (node-text command node kind) (now (out .entry)) at (now (out .exit)) r ⌝ }
 {
     let at = put_after(out, at, b"command ", long(command));
     let at = put_after(out, at, b", node ", long(node));
-    put_either(out, at, kind == kind::FIELD, b" (a field)", b" (a follow)")
+    put_kind(out, at, kind)
 }
 
 // The words that it wanted.

@@ -1,6 +1,6 @@
 -- The lists behind an array of references as a list of lists.
 use Prim.Native.Nat.{ℕ, zero, suc, _<_}
-use mathlib.Core.Path.{_≡_, refl, ap, subst}
+use mathlib.Core.Path.{_≡_, refl, sym, ap, subst}
 use mathlib.Core.List.{List, [], _∷_, map}
 use lib.ListN.{length, getD, set, List·getD-map}
 use denote.Ref.{RefT}
@@ -22,25 +22,41 @@ unchanged P e h = subst (λ m. P (map (λ x. x .now) m)) e h
 pub within-element : (l : List (RefT (List ℕ))) (j : ℕ) {w : ℕ} → w < length (column (map (λ x. x .now) l) j) → w < length ((getD l j nothing) .now)
 within-element l j {w} h = subst (λ (x : List ℕ). w < length x) (element l j) h
 
+-- ---- list j is another one
+
+abbrev pub replaced : List (RefT (List ℕ)) → ℕ → List ℕ → List (RefT (List ℕ))
+replaced l j xs = set l j (setVals xs (getD l j nothing))
+
+-- It is made of the list that was there; of none, if there is none.
+pub replaced-same : (f : List ℕ → List ℕ) → f [] ≡ [] → (l : List (RefT (List ℕ))) (j : ℕ) {xs : List ℕ} → xs ≡ f (column (map (λ y. y .now) l) j)
+    → column (map (λ y. y .now) (replaced l j xs)) j ≡ f (column (map (λ y. y .now) l) j)
+replaced-same f nil [] j e = sym nil
+replaced-same f nil (a ∷ l) zero e = e
+replaced-same f nil (a ∷ l) (suc j) e = replaced-same f nil l j e
+
+pub replaced-other : (l : List (RefT (List ℕ))) (j i : ℕ) (xs : List ℕ) → (i ≡ j → ⊥) → column (map (λ y. y .now) (replaced l j xs)) i ≡ column (map (λ y. y .now) l) i
+replaced-other [] j i xs h = refl
+replaced-other (a ∷ l) zero zero xs h = absurd (h refl)
+replaced-other (a ∷ l) zero (suc i) xs h = refl
+replaced-other (a ∷ l) (suc j) zero xs h = refl
+replaced-other (a ∷ l) (suc j) (suc i) xs h = replaced-other l j i xs (λ e. h (ap suc e))
+
+-- The array holds the same references.
+pub replaced-names : (l : List (RefT (List ℕ))) (j : ℕ) (xs : List ℕ) → map (λ y. y .name) (replaced l j xs) ≡ map (λ y. y .name) l
+replaced-names [] j xs = refl
+replaced-names (a ∷ l) zero xs = refl
+replaced-names (a ∷ l) (suc j) xs = ap (λ r. a .name ∷ r) (replaced-names l j xs)
+
 -- ---- a store of x to word w of list j
 
 abbrev pub put : List (RefT (List ℕ)) → ℕ → ℕ → ℕ → List (RefT (List ℕ))
-put l j w x = set l j (setVals (set ((getD l j nothing) .now) w x) (getD l j nothing))
+put l j w x = replaced l j (set ((getD l j nothing) .now) w x)
 
 pub put-same : (l : List (RefT (List ℕ))) (j w x : ℕ) → column (map (λ y. y .now) (put l j w x)) j ≡ set (column (map (λ y. y .now) l) j) w x
-put-same [] j w x = refl
-put-same (a ∷ l) zero w x = refl
-put-same (a ∷ l) (suc j) w x = put-same l j w x
+put-same l j w x = replaced-same (λ xs. set xs w x) refl l j (ap (λ xs. set xs w x) (sym (element l j)))
 
 pub put-other : (l : List (RefT (List ℕ))) (j i w x : ℕ) → (i ≡ j → ⊥) → column (map (λ y. y .now) (put l j w x)) i ≡ column (map (λ y. y .now) l) i
-put-other [] j i w x h = refl
-put-other (a ∷ l) zero zero w x h = absurd (h refl)
-put-other (a ∷ l) zero (suc i) w x h = refl
-put-other (a ∷ l) (suc j) zero w x h = refl
-put-other (a ∷ l) (suc j) (suc i) w x h = put-other l j i w x (λ e. h (ap suc e))
+put-other l j i w x h = replaced-other l j i (set ((getD l j nothing) .now) w x) h
 
--- The array holds the same references.
 pub put-names : (l : List (RefT (List ℕ))) (j w x : ℕ) → map (λ y. y .name) (put l j w x) ≡ map (λ y. y .name) l
-put-names [] j w x = refl
-put-names (a ∷ l) zero w x = refl
-put-names (a ∷ l) (suc j) w x = ap (λ r. a .name ∷ r) (put-names l j w x)
+put-names l j w x = replaced-names l j (set ((getD l j nothing) .now) w x)

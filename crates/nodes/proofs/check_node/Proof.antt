@@ -2,7 +2,7 @@
 use borrow.Author.Needs.{needs}
 use native.Mathlib.Omega.{arith}
 use mathlib.Core.Path.{refl}
-use Rattle.semantics.specs.Table.{kind-of, variable, deref, field, constant, sum, read, address, cast, size, malloc, value, place}
+use Rattle.semantics.specs.Table.{kind-of, variable, deref, field, constant, sum, read, address, cast, size, malloc, copy, value, place}
 use Rattle.nodes.proofs.Lookups.{few-records, few-pointers}
 use Rattle.nodes.proofs.Sorts.{unknown-low, unknown-high, none-before, last-value}
 use Rattle.nodes.proofs.Answers.{placed, noted, noted-read, unknown-noted, ready, child-ready, children-ready}
@@ -53,10 +53,14 @@ unfolding kind-of
 returns-11 c = let p = c .before .before .before .before .before .before .before .before .before .before .before .before .pre in noted (p .0) malloc (rw (c .before .before .before .before .before .match2 .keys7)) refl (c .before .before .before .malloc .ensures _ (p .0)) (c .with-child5 .ensures) refl (λ q. refl)
 
 returns-12 : tie.Need-returns-12
-returns-12 c = absurd (c .match2 .rest .1 (last-value _ (c .before .before .if1 .left) (c .before .if2 .taken) (c .match2 .rest .0 .0 .0 .0 .0 .0 .1) (c .match2 .rest .0 .0 .0 .0 .0 .1) (c .match2 .rest .0 .0 .0 .0 .1) (c .match2 .rest .0 .0 .0 .1) (c .match2 .rest .0 .0 .1) (c .match2 .rest .0 .1)))
+unfolding kind-of
+returns-12 c = let p = c .before .before .before .before .before .before .before .before .before .before .before .before .pre in noted (p .0) copy (rw (c .before .before .before .before .before .match2 .keys8)) refl (c .before .before .before .copy .ensures) (c .with-children2 .ensures) refl (λ q. refl)
 
 returns-13 : tie.Need-returns-13
-returns-13 c = unknown-noted (c .before .before .before .before .before .before .pre .0) (unknown-high _ (omega arith))
+returns-13 c = absurd (c .match2 .rest .1 (last-value _ (c .before .before .if1 .left) (c .before .if2 .taken) (c .match2 .rest .0 .0 .0 .0 .0 .0 .0 .1) (c .match2 .rest .0 .0 .0 .0 .0 .0 .1) (c .match2 .rest .0 .0 .0 .0 .0 .1) (c .match2 .rest .0 .0 .0 .0 .1) (c .match2 .rest .0 .0 .0 .1) (c .match2 .rest .0 .0 .1) (c .match2 .rest .0 .1)))
+
+returns-14 : tie.Need-returns-14
+returns-14 c = unknown-noted (c .before .before .before .before .before .before .pre .0) (unknown-high _ (omega arith))
 
 size-requires : tie.Need-size-requires
 size-requires c κs = let p = c .before .before .before .before .before .before .before .pre in
@@ -102,5 +106,9 @@ with-child-requires-5 : tie.Need-with-child-requires-5
 unfolding kind-of
 with-child-requires-5 c κs = let p = c .before .before .before .before .before .before .before .before .before .before .before .pre in (child-ready (p .0) malloc (rw (c .before .before .before .before .match2 .keys7)) refl (c .before .before .malloc .ensures _ (p .0)) (p .2) value refl, omega arith)
 
+with-children-requires-2 : tie.Need-with-children-requires-2
+unfolding kind-of
+with-children-requires-2 c κs = let p = c .before .before .before .before .before .before .before .before .before .before .before .pre in (children-ready (p .0) copy (rw (c .before .before .before .before .match2 .keys8)) refl (c .before .before .copy .ensures) (p .2) value refl refl, omega arith)
+
 pub check-node-spec : {M : Type 1} → statement M
-check-node-spec = tie.close (tie.spec (λ c. search needs) (λ c. search needs) (λ c. search needs) (λ c. search needs) (λ c. search needs) (λ c. search needs) (λ c. search needs) (λ c. search needs) (λ c κs. search needs) (λ c. search needs) enter-requires (λ c κs. search needs) with-child-requires (λ c κs. search needs) with-child-requires-2 (λ c κs. search needs) enter-requires-2 (λ c κs. search needs) with-children-requires (λ c κs. search needs) with-read-requires (λ c κs. search needs) with-child-requires-3 (λ c κs. search needs) with-child-requires-4 size-requires enter-requires-3 (λ c κs. search needs) with-child-requires-5 returns returns-2 returns-3 returns-4 returns-5 returns-6 returns-7 returns-8 returns-9 returns-10 returns-11 returns-12 returns-13)
+check-node-spec = tie.close (tie.spec (λ c. search needs) (λ c. search needs) (λ c. search needs) (λ c. search needs) (λ c. search needs) (λ c. search needs) (λ c. search needs) (λ c. search needs) (λ c κs. search needs) (λ c. search needs) enter-requires (λ c κs. search needs) with-child-requires (λ c κs. search needs) with-child-requires-2 (λ c κs. search needs) enter-requires-2 (λ c κs. search needs) with-children-requires (λ c κs. search needs) with-read-requires (λ c κs. search needs) with-child-requires-3 (λ c κs. search needs) with-child-requires-4 size-requires enter-requires-3 (λ c κs. search needs) with-child-requires-5 (λ c κs. search needs) with-children-requires-2 returns returns-2 returns-3 returns-4 returns-5 returns-6 returns-7 returns-8 returns-9 returns-10 returns-11 returns-12 returns-13 returns-14)

@@ -11,10 +11,10 @@ use Rattle.why.proofs.put_node.Tie as tie
 returns : tie.Need-returns
 unfolding ascii node-text
 returns c =
-    puts-then (puts-after "command " refl (c .before .before .before .before .before .before .before .before .before .before .before .before .before .before .before .long .ensures .0) (c .before .before .before .before .before .before .before .before .before .before .before .before .before .before .put-after .ensures))
-    (puts-then (puts-after ", node " refl (c .before .before .before .before .before .before .before .before .before .long2 .ensures .0) (c .before .before .before .before .before .before .before .before .put-after2 .ensures)) (c .before .before .put-either .ensures))
+    puts-then (puts-after "command " refl (c .before .before .before .before .before .before .before .before .before .before .before .before .before .long .ensures .0) (c .before .before .before .before .before .before .before .before .before .before .before .before .put-after .ensures))
+    (puts-then (puts-after ", node " refl (c .before .before .before .before .before .before .before .long2 .ensures .0) (c .before .before .before .before .before .before .put-after2 .ensures)) (c .before .before .put-kind .ensures))
 
 pub put-node-spec : {M : Type 1} → statement M
 put-node-spec =
     tie.close
-    (tie.spec (λ c. search needs) (λ c κs. search needs) (λ c κs. search needs) (λ c. search needs) (λ c κs. search needs) (λ c κs. search needs) (λ c. search needs) (λ c. search needs) (λ c κs. search needs) (λ c. search needs) returns)
+    (tie.spec (λ c. search needs) (λ c κs. search needs) (λ c κs. search needs) (λ c. search needs) (λ c κs. search needs) (λ c κs. search needs) (λ c κs. search needs) (λ c. search needs) returns)
