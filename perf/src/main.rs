@@ -178,10 +178,13 @@ fn take_times(quick: bool) -> Result<(), String> {
 }
 
 /// A line for each row and part: group, name, part, instructions, parted by
-/// tabs.
+/// tabs. A library from before there were copies has the one part `refused` in
+/// the rows with some.
 fn count_library() -> Result<(), String> {
     let plan = count_plan(false).ok_or("there is no valgrind to count with")?;
-    let rows = rows::all(false);
+    let (refused, rows): (Vec<Row>, Vec<Row>) = rows::all(false)
+        .into_iter()
+        .partition(verify::refuses_copies);
     verify::rows(&rows)?;
     for row in &rows {
         let costs = count::measure(Side::Library, row, &plan)?;
@@ -189,6 +192,9 @@ fn count_library() -> Result<(), String> {
             let cost = part.of_side(costs);
             println!("{}\t{}\t{}\t{cost:.1}", row.group, row.name, part.name());
         }
+    }
+    for row in &refused {
+        println!("{}\t{}\trefused\t0", row.group, row.name);
     }
     Ok(())
 }

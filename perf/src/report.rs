@@ -136,8 +136,8 @@ const COSTS: [(&str, Quantity<Pair>); 3] = [
     ("instructions", |line| line.instructions),
 ];
 
-/// Mean ratios over all shapes that have nodes, what a node more costs, and what
-/// explaining costs beside the call.
+/// Mean ratios over all shapes that have nodes, what a node more costs, what a
+/// word copied costs, and what explaining costs beside the call.
 pub fn summary(lines: &[Line]) -> String {
     let ratios = RATIOS.map(|(name, quantity)| {
         summary_line(name, |part| {
@@ -153,11 +153,43 @@ pub fn summary(lines: &[Line]) -> String {
     });
     format!(
         "Ratio, geometric mean over the rows before 'registers' that have nodes:\n{}\
-         Cost of a node more, from the first to the last row of 'growth', library and second:\n{}{}",
+         Cost of a node more, from the first to the last row of 'growth', library and second:\n{}{}{}",
         ratios.concat(),
         costs.concat(),
+        copying(lines).unwrap_or_default(),
         explaining(lines).unwrap_or_default()
     )
+}
+
+/// What a word copied costs, for each row with copies.
+fn copying(lines: &[Line]) -> Option<String> {
+    let lines = lines.iter().filter(|line| line.part == Part::Run);
+    let mut without = None;
+    let mut text = String::from(
+        "Cost of a word copied: run less the run of the row without copies before it, by the words; \
+         library and second, ratio:\n",
+    );
+    for line in lines.filter(|line| line.row.about_copies()) {
+        match line.row.copied > 0.0 {
+            true => text += &a_word(line, without?),
+            false => without = Some(line),
+        }
+    }
+    without.map(|_| text)
+}
+
+fn a_word(line: &Line, without: &Line) -> String {
+    let cells = COSTS.map(|(name, quantity)| {
+        let pair = quantity(line).zip(quantity(without));
+        let cell = pair.map_or("not counted".into(), |(with, without)| {
+            let [library, second] =
+                [0, 1].map(|side| (with[side] - without[side]) / line.row.copied);
+            let ratio = library / second;
+            format!("{library:.3} and {second:.3}, {ratio:.2}")
+        });
+        format!("  {name} {cell:<24}")
+    });
+    format!("  {:<18}{}\n", line.row.name, cells.concat().trim_end())
 }
 
 /// The greatest ratio of explain to call, of either side. None where
@@ -211,7 +243,8 @@ fn node_more(lines: &[Line], part: Part, quantity: Quantity<Pair>) -> Option<Pai
     Some([0, 1].map(|side| (high[side] - low[side]) / nodes))
 }
 
-pub const SAVED_HEADING: &str = "group,row,nodes,commands,table_words,memory_words,act,\
+pub const SAVED_HEADING: &str =
+    "group,row,nodes,commands,table_words,memory_words,copied_words,act,\
 library_ns,second_ns,ratio,lowest_ratio,highest_ratio,library_best_ns,second_best_ns,\
 library_instructions,second_instructions\n";
 
@@ -220,13 +253,14 @@ pub fn saved(line: &Line) -> String {
     let Line { row, part, .. } = line;
     let numbers = |pair: Pair| format!("{:.3},{:.3}", pair[0], pair[1]);
     format!(
-        "{},\"{}\",{},{},{},{},{},{},{:.3},{},{},{}\n",
+        "{},\"{}\",{},{},{},{},{},{},{},{:.3},{},{},{}\n",
         row.group,
         row.name,
         row.nodes,
         row.commands,
         row.words,
         row.memory,
+        row.copied,
         part.name(),
         numbers(line.ns),
         line.ratio,

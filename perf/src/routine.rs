@@ -25,6 +25,8 @@ pub struct Routine {
     pub nodes: Vec<[u32; 3]>,
     /// A place and a value each.
     pub commands: Vec<[u32; 2]>,
+    /// How many words its copies copy in all.
+    pub copied: u32,
 }
 
 /// Nodes, by the scope's names. Each gives the new node's number.
@@ -72,6 +74,10 @@ impl Routine {
 
     pub fn obtain(&mut self, words: u32) -> u32 {
         self.node(kind::MALLOC, words, 0)
+    }
+
+    pub fn copy(&mut self, to: u32, from: u32) -> u32 {
+        self.node(kind::COPY, to, from)
     }
 }
 

@@ -21,6 +21,8 @@ pub struct Row {
     pub nodes: f64,
     pub commands: f64,
     pub words: f64,
+    /// Words that a run copies.
+    pub copied: f64,
 }
 
 /// A row to be built. A run under callgrind has one row and builds no other.
@@ -35,6 +37,8 @@ pub struct Plan {
 
 /// The group of rows whose runs abort.
 const ABORT: &str = "abort";
+/// The group of rows with copies, and of those without to set them against.
+const COPIES: &str = "copies";
 
 const QUICK: [&str; 8] = [
     "small",
@@ -63,6 +67,7 @@ fn plans() -> Vec<Plan> {
     let mut plans = shapes();
     plans.extend(registers());
     plans.extend(records());
+    plans.extend(copies());
     plans.extend(memory());
     plans.extend(growth());
     plans.extend(aborts());
@@ -128,6 +133,29 @@ fn records() -> Vec<Plan> {
     [1, 16, 128].into_iter().flat_map(both).collect()
 }
 
+/// Copies of short records in short lists and of long ones in the longest, each
+/// time after the same routine without copies.
+fn copies() -> Vec<Plan> {
+    let plan = |memory: usize, block: u32, count: u32, words: u32| Plan {
+        group: COPIES,
+        name: match count {
+            0 => format!("no copies, {memory}"),
+            _ => format!("copies {count} x {words}"),
+        },
+        memory,
+        quick: memory == 64 && words == 16,
+        routines: Box::new(move || vec![workload::copies(block, count, words)]),
+    };
+    vec![
+        plan(64, 16, 0, 16),
+        plan(64, 16, 80, 1),
+        plan(64, 16, 80, 16),
+        plan(65_536, 32_000, 0, 32_000),
+        plan(65_536, 32_000, 8, 4_096),
+        plan(65_536, 32_000, 2, 32_000),
+    ]
+}
+
 /// One routine of 64 nodes in ever longer lists.
 fn memory() -> Vec<Plan> {
     let plan = |length: usize| Plan {
@@ -173,6 +201,11 @@ impl Row {
     pub fn aborts(&self) -> bool {
         self.group == ABORT
     }
+
+    /// Whether the row is about copies, with some or without.
+    pub fn about_copies(&self) -> bool {
+        self.group == COPIES
+    }
 }
 
 impl Plan {
@@ -186,6 +219,7 @@ impl Plan {
             nodes: mean(routines.iter().map(|routine| routine.nodes.len())),
             commands: mean(routines.iter().map(|routine| routine.commands.len())),
             words: mean(cases.iter().map(|case| case.table.len())),
+            copied: mean(routines.iter().map(|routine| routine.copied as usize)),
             cases,
         }
     }

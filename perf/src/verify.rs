@@ -3,6 +3,7 @@
 use crate::library::EXPLAINS;
 use crate::rows::{Case, Row};
 use crate::side::{call, check, explain, Lists, Side, SIDES};
+use second::machine::kind;
 use std::fmt::Debug;
 
 /// Lists are lent full of such words, so that a call that clears too little
@@ -16,6 +17,16 @@ pub fn rows(rows: &[Row]) -> Result<(), String> {
         }
     }
     Ok(())
+}
+
+/// Whether the library was built before there were copies: it refuses a table
+/// for the kind word of one.
+pub fn refuses_copies(row: &Row) -> bool {
+    row.cases.iter().any(|case| {
+        let verdict = check(Side::Library, case);
+        let at_fault = case.table.get(verdict.place);
+        verdict.number == 7 && at_fault == Some(&kind::COPY)
+    })
 }
 
 fn agrees(case: &Case, row: &Row) -> Result<(), String> {

@@ -4,7 +4,7 @@
 
 use crate::routine::{entry, Routine, INT, RECORD, VOID_POINTER};
 
-/// 16 nodes in 3 commands that have each of the ten kinds:
+/// 16 nodes in 3 commands that have each kind but the copy:
 /// `p = (record*)malloc(sizeof(record)); q = &p->field 1; *(q + 1) = x`.
 fn group(r: &mut Routine, p: [u32; 2], q: u32, x: u32, record: u32) {
     new_field(r, p, q, record);
@@ -338,6 +338,35 @@ pub fn registers(count: u32, length: u32) -> Routine {
         r.assign(place, value);
         let place = r.word_of(p, n);
         let value = r.get(x);
+        r.assign(place, value);
+    }
+    r
+}
+
+/// A block p and a register q of so many words, a pointer with bounds in the
+/// first word of q, and so often `x = copy(p, q)` of a record of so many words.
+pub fn copies(block: u32, count: u32, words: u32) -> Routine {
+    const MOST: u32 = 4_096; // of a field
+    let [p, q, x] = [0, 1, 2];
+    let fields = words.div_ceil(MOST);
+    let mut r = Routine {
+        records: vec![vec![[INT, words / fields]; fields as usize]],
+        pointers: vec![RECORD, entry(0)],
+        variables: vec![[entry(0), 0], [entry(0), 0], [INT, 9]],
+        registers: vec![(q, (0..block).collect())],
+        copied: count * words,
+        ..Routine::default()
+    };
+    r.block(p, entry(0), block);
+    let first = r.get(q);
+    let first = r.cast(first, entry(1));
+    let place = r.follow(first);
+    let value = r.get(q);
+    r.assign(place, value);
+    for _ in 0..count {
+        let place = r.variable(x);
+        let [to, from] = [p, q].map(|pointer| r.get(pointer));
+        let value = r.copy(to, from);
         r.assign(place, value);
     }
     r

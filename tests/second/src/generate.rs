@@ -1,5 +1,7 @@
 //! Random cases, the same ones for the same seed and index.
 
+mod copies;
+mod copying;
 mod damage;
 mod deep;
 mod expression;
@@ -33,11 +35,7 @@ pub fn line(seed: u64, index: u64, out: &mut Vec<u8>) {
 fn case(random: &mut Random) -> Case {
     let mut case = match random.weighted(&[570, 215, 95, 50, 35, 15, 20]) {
         0 => well_formed(random).case(),
-        1 => {
-            let mut case = well_formed(random).case();
-            damage::damage(random, &mut case);
-            case
-        }
+        1 => damaged(random),
         2 => {
             let mut case = well_formed(random).case();
             damage::registers(random, &mut case);
@@ -60,7 +58,22 @@ fn case(random: &mut Random) -> Case {
 }
 
 fn well_formed(random: &mut Random) -> Routine {
-    shuffled(random, Routine::small)
+    match random.percent(25) {
+        true => shuffled(random, Routine::copying),
+        false => shuffled(random, Routine::small),
+    }
+}
+
+/// A good case with something wrong about it, and now and then a copy of which
+/// only the types are wrong.
+fn damaged(random: &mut Random) -> Case {
+    let mut routine = well_formed(random);
+    let wrong_copy = random.percent(15) && routine.add_wrong_copy(random);
+    let mut case = routine.case();
+    if !wrong_copy || random.percent(25) {
+        damage::damage(random, &mut case);
+    }
+    case
 }
 
 /// A routine whose nodes stand, half of the time, in another order.

@@ -1,6 +1,6 @@
 //! The check and the run of document 01, with registers handed in, with steps
-//! by records and with a reason for every abort. No input or output happens
-//! here.
+//! by records, with a reason for every abort and with whole records copied. No
+//! input or output happens here.
 //!
 //! [`check`] judges a table alone. [`run`] is the whole call: the check, the
 //! conditions on the call (10, 11, 13 to 15), then the routine. [`explain`] is
@@ -61,7 +61,7 @@ const VOID_POINTER: u8 = 1;
 /// A target from this number on is a record.
 const RECORD: u32 = 65_536;
 
-/// The kinds of nodes: 1 to 3 are places, 4 to 10 values.
+/// The kinds of nodes: 1 to 3 are places, 4 to 11 values.
 pub mod kind {
     pub const VARIABLE: u32 = 1;
     pub const DEREF: u32 = 2;
@@ -73,6 +73,7 @@ pub mod kind {
     pub const CAST: u32 = 8;
     pub const SIZE: u32 = 9;
     pub const MALLOC: u32 = 10;
+    pub const COPY: u32 = 11;
 }
 
 /// Buffers for calls. What a call leaves in them means nothing to the next:

@@ -29,7 +29,7 @@ fn refusals_of_the_check() {
     refused("1 0 0 0 0 0 0", 4, 1);
     refused("0 0 0 1 2 0 0", 5, 4);
     refused("0 0 2 0 0 0 0 0", 6, 4);
-    refused("0 0 0 0 1 11 0 0 0", 7, 5);
+    refused("0 0 0 0 1 99 0 0 0", 7, 5);
     refused("0 0 0 1 1 3 1 0 0 6 0 0 2 1 0 0", 8, 12);
     refused("0 0 0 0 1 4 7 0 0", 9, 5);
 }

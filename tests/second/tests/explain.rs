@@ -431,6 +431,157 @@ fn the_first_check_not_passed() {
     assert_eq!(explained(&routine, "0"), (abort(1, 8), expected));
 }
 
+/// `x = copy(r + to words, r + from words)`, r at a record of four words,
+/// [6, 10): the copy's own node, the pointer's value and the whole record.
+#[test]
+fn copies() {
+    let copy = |to: u32, from: u32| {
+        let mut routine = Routine::default();
+        let to = routine.record_at(R, to);
+        let from = routine.record_at(R, from);
+        let node = routine.copy(to, from);
+        routine.set(X, node);
+        (node, explained(&routine, "1 2 4 1 2 3 4"))
+    };
+    assert_eq!(copy(0, 0).1, (done(10), None));
+    let outside = [
+        (1, 7, PastEnd),
+        (4, 10, PastEnd),
+        (BACK, 5, BeforeBase),
+        (BACK - 5, 0, BeforeBase),
+        // Four words more are words 1 and 2, modulo 2^32.
+        (BACK - 6, 4_294_967_295, PastEnd),
+    ];
+    for (n, place, reason) in outside {
+        for (to, from) in [(n, 0), (0, n)] {
+            let (node, explained) = copy(to, from);
+            let expected = told(node, place, 4, [6, 10], reason, 6);
+            assert_eq!(explained, (abort(0, 10), expected));
+        }
+    }
+    // Both: the place copied to comes first.
+    let (node, explained) = copy(2, BACK);
+    let expected = told(node, 8, 4, [6, 10], PastEnd, 6);
+    assert_eq!(explained, (abort(0, 10), expected));
+    let (node, explained) = copy(BACK, 2);
+    let expected = told(node, 5, 4, [6, 10], BeforeBase, 6);
+    assert_eq!(explained, (abort(0, 10), expected));
+}
+
+/// The bounds are those of the pointer whose place is not passed.
+#[test]
+fn copies_between_blocks() {
+    // p at [6, 8), and blocks [8, 12) and [12, 15) obtained by the copy itself
+    let copy = |to: u32, from: u32| {
+        let mut routine = m();
+        let [to, from] = [to, from].map(|words| {
+            let block = routine.obtain(words);
+            routine.cast(block, RECORD_POINTER)
+        });
+        let node = routine.copy(to, from);
+        routine.set(X, node);
+        (node, explained(&routine, "0"))
+    };
+    let (node, explained) = copy(4, 3);
+    let expected = told(node, 12, 4, [12, 15], PastEnd, 12);
+    assert_eq!(explained, (abort(1, 15), expected));
+    let (node, explained) = copy(3, 4);
+    let expected = told(node, 8, 4, [8, 11], PastEnd, 8);
+    assert_eq!(explained, (abort(1, 15), expected));
+    let (node, explained) = copy(3, 3);
+    let expected = told(node, 8, 4, [8, 11], PastEnd, 8);
+    assert_eq!(explained, (abort(1, 14), expected));
+    // malloc(0), after which the other is no question
+    let (node, explained) = copy(0, 3);
+    let expected = told(node, 0, 4, [0, 0], NoBounds, 0);
+    assert_eq!(explained, (abort(1, 11), expected));
+    let (node, explained) = copy(4, 0);
+    let expected = told(node, 0, 4, [0, 0], NoBounds, 0);
+    assert_eq!(explained, (abort(1, 12), expected));
+    assert_eq!(copy(4, 4).1, (done(16), None));
+    assert_eq!(copy(1, 24).1, (no_room(1, 9), None));
+}
+
+/// A check in an operand comes before those of the copy, in b too.
+#[test]
+fn operands_of_a_copy() {
+    let mut routine = m();
+    let to = routine.number(20);
+    let to = routine.cast(to, RECORD_POINTER);
+    let node = routine.word_of(P, 2);
+    let from = routine.address(node);
+    let from = routine.cast(from, RECORD_POINTER);
+    let copy = routine.copy(to, from);
+    routine.set(X, copy);
+    let expected = told(node, 8, 1, [6, 8], PastEnd, 6);
+    assert_eq!(explained(&routine, "0"), (abort(1, 8), expected));
+    // A place before the copy in its value, and a copy's check before a place
+    // that needs its result.
+    let mut routine = m();
+    let [to, from] = [0, 1].map(|n| routine.record_at(P, n));
+    let copy = routine.copy(to, from);
+    let node = routine.word_of(P, 2);
+    routine.assign(node, copy);
+    let expected = told(node, 8, 1, [6, 8], PastEnd, 6);
+    assert_eq!(explained(&routine, "0"), (abort(1, 8), expected));
+    let mut routine = m();
+    let p = routine.get(P);
+    let [to, from] = [0, 1].map(|n| routine.record_at(P, n));
+    let copy = routine.copy(to, from);
+    let p = routine.sum(p, copy);
+    let place = routine.follow(p);
+    routine.store(place);
+    let expected = told(copy, 6, 4, [6, 8], PastEnd, 6);
+    assert_eq!(explained(&routine, "0"), (abort(1, 8), expected));
+}
+
+/// Bounds that a copy has moved are those of their own block still: p, at
+/// [6, 8), goes into one record and by a copy into the next.
+#[test]
+fn bounds_that_were_copied() {
+    let mut routine = m();
+    routine.block(R, RECORD_POINTER, 8);
+    let pointer = routine.get(R);
+    let pointer = routine.cast(pointer, POINTER_POINTER);
+    let place = routine.follow(pointer);
+    let p = routine.get(P);
+    routine.assign(place, p);
+    let [to, from] = [4, 0].map(|n| routine.record_at(R, n));
+    let copy = routine.copy(to, from);
+    routine.set(X, copy);
+    let pointer = routine.get(R);
+    let pointer = routine.cast(pointer, POINTER_POINTER);
+    let pointer = routine.plus(pointer, 4);
+    let place = routine.follow(pointer);
+    let pointer = routine.read(place);
+    let pointer = routine.plus(pointer, 2);
+    let node = routine.follow(pointer);
+    routine.store(node);
+    let expected = told(node, 8, 1, [6, 8], PastEnd, 6);
+    assert_eq!(explained(&routine, "0"), (abort(4, 16), expected));
+}
+
+/// The largest record fits nowhere: 2^19 words.
+#[test]
+fn a_copy_of_the_largest_record() {
+    let fields = "0 4096 ".repeat(128);
+    let nodes = format!("6 1 0 0 1 1 0 6 1 0 4 {} 0 8 3 2 11 2 4", u32::MAX);
+    let table = words(&format!(
+        "1 128 | 128 {fields} | 1 65536 | 2 0 2 | {nodes} | 1 0 5"
+    ));
+    let expected = told(5, 3, 524_288, [3, 4], PastEnd, 3);
+    let explained = explain(&table, &[0, 0], &words("1 1 1 8"), 4);
+    assert_eq!(explained, (abort(0, 4), expected));
+    // The other way round, the number made a pointer comes first.
+    let table = words(&format!(
+        "1 128 | 128 {fields} | 1 65536 | 2 0 2 | {} | 1 0 5",
+        nodes.replace("11 2 4", "11 4 2")
+    ));
+    let expected = told(5, 4_294_967_295, 524_288, [0, 0], NoBounds, 0);
+    let explained = explain(&table, &[0, 0], &words("1 1 1 8"), 4);
+    assert_eq!(explained, (abort(0, 4), expected));
+}
+
 #[test]
 fn before_the_last_command() {
     let mut routine = m();

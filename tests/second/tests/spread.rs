@@ -1,10 +1,13 @@
 //! Random cases are worth something only if they get everywhere: to each
-//! refusal and each ending, to runs with registers, to steps of all kinds, and
-//! to aborts for each reason, of all bounds and all over a command.
+//! refusal and each ending, to runs with registers, to steps of all kinds, to
+//! aborts for each reason, of all bounds and all over a command, and to copies
+//! of all kinds.
 
 mod aborts;
 mod by_words;
+mod copied;
 mod plain;
+mod plain_run;
 mod sums;
 
 use by_words::by_words;
@@ -28,6 +31,8 @@ struct Spread {
     steps: Counts,
     /// Explanations: `none`, or what is special about the abort.
     explanations: Counts,
+    /// What the copies of begun runs are like, and refusals of copies.
+    copies: Counts,
 }
 
 fn count(counts: &mut Counts, name: impl ToString) {
@@ -55,6 +60,9 @@ fn spread() -> Spread {
             "refused" => {
                 let number = words.next().expect("a number");
                 count(&mut spread.answers, format!("{first} {number}"));
+                case.read(line).expect("a case");
+                let names = copied::refused(&case).into_iter();
+                names.for_each(|name| count(&mut spread.copies, name));
             }
             _ => count(&mut spread.answers, first),
         }
@@ -63,6 +71,7 @@ fn spread() -> Spread {
             spread.begun += 1;
             spread.with_registers += u32::from(case.registers[0] > 0);
             spread.explanation_of(&case);
+            spread.copies_of(&case);
             spread.steps_of(&mut case);
         }
     }
@@ -83,6 +92,11 @@ impl Spread {
             }
             None => count(&mut self.explanations, "none"),
         }
+    }
+
+    fn copies_of(&mut self, case: &Case) {
+        let names = copied::names(case);
+        names.iter().for_each(|name| count(&mut self.copies, name));
     }
 
     /// Counts a begun run by its sums. Its steps by records are telling where
@@ -132,19 +146,78 @@ fn cases_get_everywhere() {
     }
     assert!(spread.begun > 4_000 && spread.with_registers > spread.begun / 2);
     steps_lead_everywhere(&spread.steps);
+    println!("copies: {:#?}", spread.copies);
+    more_than(&spread.copies, &COPIES);
     println!("explanations: {:#?}", spread.explanations);
     more_than(&spread.explanations, &EXPLANATIONS);
 }
 
+/// At least so many cases with copies of each name.
+const COPIES: [(&str, u32); 45] = [
+    ("completed", 1_000),
+    ("a above b, overlapping", 250),
+    ("a below b, overlapping", 250),
+    ("onto itself", 150),
+    ("apart", 700),
+    ("of one word", 200),
+    ("of some words", 800),
+    ("of thousands of words", 8),
+    ("in a register", 600),
+    ("in a block", 600),
+    ("over a variable", 70),
+    ("by steps of records", 200),
+    ("onto a pointer that led to the place", 70),
+    // What the copy's number is for.
+    ("assigned", 800),
+    ("in a sum", 400),
+    ("in an index", 30),
+    ("in a count of words", 15),
+    ("below a cast", 20),
+    ("in an operand of a copy", 60),
+    // Wrong ways to copy that are told apart.
+    ("not the first word first", 200),
+    ("not the last word first", 200),
+    ("not values alone", 250),
+    ("moved bounds are followed", 45),
+    // Checks not passed.
+    ("a's check", 50),
+    ("b's check", 80),
+    ("both checks", 70),
+    ("no bounds", 90),
+    ("before the base", 60),
+    ("past the end", 45),
+    ("only the first words in bounds", 15),
+    ("only the last words in bounds", 35),
+    ("in bounds modulo 2^32", 8),
+    ("after a block was obtained", 70),
+    ("explained", 120),
+    // Copies turned away.
+    ("refused, a is a place", 12),
+    ("refused, b is a place", 10),
+    ("refused, a is unknown", 6),
+    ("refused, b is unknown", 5),
+    ("refused, two records", 3),
+    ("refused, a points to no record", 18),
+    ("refused, b points to no record", 20),
+    ("refused, two types and no record", 40),
+    ("refused, two ints", 15),
+    ("refused, two pointers to void", 4),
+    ("refused, two pointers to a type", 8),
+];
+
 /// At least so many explanations of each name.
-const EXPLANATIONS: [(&str, u32); 27] = [
+const EXPLANATIONS: [(&str, u32); 31] = [
     ("none", 1_000),
     ("follow, no bounds", 100),
     ("follow, before the base", 150),
     ("follow, past the end", 100),
-    ("field, no bounds", 50),
+    ("field, no bounds", 40),
     ("field, before the base", 100),
     ("field, past the end", 80),
+    ("copy, no bounds", 50),
+    ("copy, before the base", 40),
+    ("copy, past the end", 25),
+    ("in an operand of a copy", 20),
     ("across the base", 30),
     ("across the end", 15),
     ("far past the end", 15),

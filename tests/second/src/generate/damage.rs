@@ -138,9 +138,9 @@ fn nodes(random: &mut Random, case: &mut Case, sections: &Sections) {
     let i = ((at - sections.starts[4]) / 3) as u32;
     let types = 2 + pointers;
     let kind = case.table[at];
-    match random.below(10) {
-        0 => case.table[at] = random.pick(&[0, 11, 12, u32::MAX]),
-        1 => case.table[at] = random.between(1, 10),
+    match random.below(11) {
+        0 => case.table[at] = random.pick(&[0, 12, 13, 99, u32::MAX]),
+        1 => case.table[at] = random.between(1, 11),
         2 => case.table[at + 1] = random.pick(&[i, i + 1, nodes, variables, u32::MAX]),
         3 | 4 => case.table[at + 1] = random.below(i + 1),
         5 if kind == kind::CAST || kind == kind::FIELD => {
@@ -153,7 +153,28 @@ fn nodes(random: &mut Random, case: &mut Case, sections: &Sections) {
             case.table[at + 2] = random.pick(&[1, i, types, u32::MAX]);
         }
         8 => case.table[at + 2] = random.pick(&[i / 2, i, 128, u32::MAX]),
+        9 => copy(random, case, sections, at),
         _ => retype(random, case, sections, types),
+    }
+}
+
+/// The next copy from here on becomes a sum or gets another child, known or
+/// not; a sum becomes a copy.
+fn copy(random: &mut Random, case: &mut Case, sections: &Sections, at: usize) {
+    let nodes = sections.counts[4];
+    let mut from_here = (at..sections.starts[5]).step_by(3);
+    let two_children = |at: &usize| matches!(case.table[*at], kind::SUM | kind::COPY);
+    let Some(at) = from_here.find(two_children) else {
+        return;
+    };
+    let i = ((at - sections.starts[4]) / 3) as u32;
+    match case.table[at] {
+        kind::SUM => case.table[at] = kind::COPY,
+        _ if random.percent(30) => case.table[at] = kind::SUM,
+        _ => {
+            let child = random.pick(&[i, i + 1, nodes, u32::MAX, i / 2, 0]);
+            case.table[at + 1 + random.index(2)] = child;
+        }
     }
 }
 

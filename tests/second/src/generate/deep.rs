@@ -148,16 +148,23 @@ impl Deep<'_> {
         }
     }
 
-    /// A step is two words here, and 2^31 steps lead nowhere.
+    /// A step is two words here, and 2^31 steps lead nowhere. A copy is of the
+    /// pointer's first two words, or onto them.
     fn around_row(&mut self, value: u32) -> (u32, u32) {
-        match self.random.weighted(&[55, 5, 40]) {
+        match self.random.weighted(&[55, 5, 40, 8]) {
             0 => (self.step(value, &[0, 1 << 31, 1, u32::MAX]), ROW),
             1 => {
                 let field = self.random.below(2);
                 let place = self.node(kind::FIELD, value, field);
                 (self.node(kind::ADDRESS, place, 0), POINTER)
             }
-            _ => self.cast(value, &[VOID_POINTER, POINTER]),
+            2 => self.cast(value, &[VOID_POINTER, POINTER]),
+            _ => {
+                let other = self.read(0);
+                let other = self.node(kind::CAST, other, ROW);
+                let [a, b] = self.random.pick(&[[value, other], [other, value]]);
+                (self.node(kind::COPY, a, b), INT)
+            }
         }
     }
 

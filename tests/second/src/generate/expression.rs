@@ -11,7 +11,7 @@ pub struct Expressions<'r> {
     pub(super) wanted: Wanted,
     /// How many more expressions may be anything but simple, so that there is
     /// an end to it.
-    left: u32,
+    pub(super) left: u32,
 }
 
 impl<'r> Expressions<'r> {
@@ -31,12 +31,18 @@ impl<'r> Expressions<'r> {
 
     /// A command, or none where there is no place at all to assign to.
     pub fn command(&mut self) -> Option<[u32; 2]> {
+        let copying = if self.routine.copying { 85 } else { 4 };
+        let nodes = self.routine.nodes.len();
         let special = match self.led_astray() {
+            _ if self.random.percent(copying) => self.copying(),
             Some(reason) if self.random.percent(45) => self.stray_command(reason),
             _ if self.random.percent(20) => self.walk(),
             _ => None,
         };
-        special.or_else(|| self.assignment())
+        special.or_else(|| {
+            self.routine.nodes.truncate(nodes);
+            self.assignment()
+        })
     }
 
     /// Which way places shall be out of bounds, if they shall: places without
@@ -142,7 +148,7 @@ impl<'r> Expressions<'r> {
             let word = self.random.number();
             return self.constant(word);
         }
-        match self.random.weighted(&[35, 6, 16, 25, 14, 4]) {
+        match self.random.weighted(&[35, 6, 16, 25, 14, 4, 14]) {
             0 => {
                 let word = self.random.number();
                 self.constant(word)
@@ -158,10 +164,11 @@ impl<'r> Expressions<'r> {
                 let a = self.any_pointer();
                 self.node(kind::CAST, a, INT)
             }
-            _ => {
+            5 => {
                 let a = self.int();
                 self.node(kind::CAST, a, INT)
             }
+            _ => self.copy().unwrap_or_else(|| self.size()),
         }
     }
 
@@ -199,7 +206,7 @@ impl<'r> Expressions<'r> {
     }
 
     /// A value of pointer type `typ`.
-    fn pointer(&mut self, typ: u32) -> u32 {
+    pub(super) fn pointer(&mut self, typ: u32) -> u32 {
         self.left = self.left.saturating_sub(1);
         if self.left == 0 {
             return self.simple_pointer(typ);
@@ -259,7 +266,8 @@ impl<'r> Expressions<'r> {
         let room = self.routine.length.saturating_sub(self.routine.unused);
         let greedy = if self.wanted == Wanted::NoRoom { 30 } else { 2 };
         let step = self.routine.types.step(typ);
-        let row = if (2..=20).contains(&step) { 90 } else { 0 };
+        let most = if self.routine.copying { room } else { 20 };
+        let row = if (2..=most).contains(&step) { 90 } else { 0 };
         let weights = [8, 45, 20, 6, greedy, row, greedy / 2];
         match self.random.weighted(&weights) {
             0 => self.constant(0),

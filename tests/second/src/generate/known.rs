@@ -26,14 +26,14 @@ impl Expressions<'_> {
     }
 
     /// Pointer variables with bounds, each with its word: value, base and end.
-    fn bounded(&self) -> Vec<(u32, [u32; 3])> {
+    pub(super) fn bounded(&self) -> Vec<(u32, [u32; 3])> {
         let variables = (0..).zip(&self.routine.types.variables);
         let pointers = variables.filter(|&(_, &typ)| typ != INT);
         let words = pointers.map(|(variable, _)| (variable, self.word(1 + variable)));
         words.filter(|&(_, [.., end])| end != 0).collect()
     }
 
-    fn word(&self, word: u32) -> [u32; 3] {
+    pub(super) fn word(&self, word: u32) -> [u32; 3] {
         [0, 1, 2].map(|list| self.routine.memory[list][word as usize])
     }
 
@@ -43,16 +43,21 @@ impl Expressions<'_> {
         if bounded.is_empty() {
             return None;
         }
-        let (variable, [at, base, end]) = self.random.pick(&bounded);
+        let (variable, _) = self.random.pick(&bounded);
+        Some(self.of(variable))
+    }
+
+    /// The value of this variable.
+    pub(super) fn of(&mut self, variable: u32) -> Known {
+        let [at, base, end] = self.word(1 + variable);
         let typ = self.routine.types.variables[variable as usize];
-        let node = self.read_as(variable, typ);
-        Some(Known {
-            node,
+        Known {
+            node: self.read_as(variable, typ),
             typ,
             at,
             base,
             end,
-        })
+        }
     }
 
     fn address_of_variable(&mut self) -> Option<Known> {
@@ -132,21 +137,35 @@ impl Expressions<'_> {
     }
 
     /// A pointer that stands in a block, read by way of a variable.
-    fn fetched(&mut self) -> Option<Known> {
-        let bounded = self.bounded();
-        let types = &self.routine.types;
-        let mut found = Vec::new();
-        for (variable, [value, base, end]) in bounded {
-            let held = (base..end).filter(|&w| self.word(w)[2] != 0);
-            found.extend(held.map(|w| (variable, value, w)));
+    pub(super) fn fetched(&mut self) -> Option<Known> {
+        let held = self.held();
+        if held.is_empty() {
+            return None;
         }
+        let (variable, w) = self.random.pick(&held);
+        self.fetch(variable, w)
+    }
+
+    /// Words with bounds in the blocks that variables point to.
+    pub(super) fn held(&self) -> Vec<(u32, u32)> {
+        let mut found = Vec::new();
+        for (variable, [_, base, end]) in self.bounded() {
+            let held = (base..end).filter(|&w| self.word(w)[2] != 0);
+            found.extend(held.map(|w| (variable, w)));
+        }
+        found
+    }
+
+    /// The pointer in word `w`, which is in this variable's bounds.
+    pub(super) fn fetch(&mut self, variable: u32, w: u32) -> Option<Known> {
+        let types = &self.routine.types;
         let pointers = 1..types.count();
         let ways = pointers.filter_map(|typ| Some([typ, types.pointer_to(typ)?]));
         let ways: Vec<[u32; 2]> = ways.collect();
-        if found.is_empty() || ways.is_empty() {
+        if ways.is_empty() {
             return None;
         }
-        let (variable, value, w) = self.random.pick(&found);
+        let [value, ..] = self.word(1 + variable);
         let [typ, pointer] = self.random.pick(&ways);
         let from = self.read_as(variable, pointer);
         let from = self.step_by(from, pointer, w.wrapping_sub(value));

@@ -41,7 +41,11 @@ fn count(random: &mut Random, pointers: u32) -> u32 {
 /// does not.
 fn length(random: &mut Random, types: &Types, variable: u32) -> u32 {
     let record = types.record(types.variables[variable as usize]);
-    let size = record.map_or(0, |record| types.size(record)).min(60);
+    let size = record.map_or(0, |record| types.size(record));
+    let size = match random.percent(5) {
+        true => size.min(10_000),
+        false => size.min(60),
+    };
     match random.weighted(&[8, 17, 40, 12, if size > 0 { 60 } else { 0 }, 1]) {
         0 => 0,
         1 => 1,

@@ -39,6 +39,8 @@ pub struct Routine {
     pub inputs: Vec<u32>,
     pub registers: Vec<u32>,
     pub length: u32,
+    /// Whether most commands shall have to do with copies.
+    pub copying: bool,
     /// Memory and U as the commands so far leave them.
     pub memory: [Vec<u32>; 3],
     pub unused: u32,
@@ -63,6 +65,7 @@ impl Routine {
             nodes: Vec::new(),
             commands: Vec::new(),
             length,
+            copying: false,
             memory: [const { Vec::new() }; 3],
             unused: 0,
         };
@@ -84,6 +87,20 @@ impl Routine {
         };
         let mut routine = Routine::new(random, types, room);
         let commands = random.weighted(&[4, 6, 8, 10, 10, 10, 10, 9, 8, 7, 6, 5, 4, 3]);
+        routine.grow(random, commands);
+        routine.end(random);
+        routine
+    }
+
+    /// A routine that fills blocks, copies within and between them, and follows
+    /// what came by a copy.
+    pub fn copying(random: &mut Random) -> Routine {
+        let types = Types::copied(random);
+        let record = types.size(0);
+        let room = random.below(4 * record) + random.below(24);
+        let mut routine = Routine::new(random, types, room);
+        routine.copying = true;
+        let commands = random.between(2, 16) as usize;
         routine.grow(random, commands);
         routine.end(random);
         routine
@@ -140,18 +157,27 @@ impl Routine {
 
     /// Adds a random command. False when the limits leave no place for it.
     fn try_command(&mut self, random: &mut Random, wanted: Wanted) -> bool {
-        let (nodes, commands) = (self.nodes.len(), self.commands.len());
+        let nodes = self.nodes.len();
         let command = Expressions::new(self, random, wanted).command();
-        let Some(command) = command else {
-            return false;
-        };
-        self.commands.push(command);
-        if self.nodes.len() > MAX_NODES || self.commands.len() > MAX_COMMANDS {
-            self.nodes.truncate(nodes);
-            self.commands.truncate(commands);
-            return false;
+        self.push(nodes, command)
+    }
+
+    /// Adds a command whose copy is no right one, where there can be one.
+    pub fn add_wrong_copy(&mut self, random: &mut Random) -> bool {
+        let nodes = self.nodes.len();
+        let command = Expressions::new(self, random, Wanted::Done).wrong_copy();
+        self.push(nodes, command)
+    }
+
+    /// Adds a command, the nodes of which begin with number `nodes`, or leaves
+    /// no trace of it.
+    fn push(&mut self, nodes: usize, command: Option<[u32; 2]>) -> bool {
+        let within = self.nodes.len() <= MAX_NODES && self.commands.len() < MAX_COMMANDS;
+        match command {
+            Some(command) if within => self.commands.push(command),
+            _ => self.nodes.truncate(nodes),
         }
-        true
+        command.is_some() && within
     }
 
     /// Runs what there is and keeps the memory it leaves.
@@ -230,7 +256,7 @@ impl Routine {
 pub fn children([kind, a, b]: [u32; 3]) -> impl Iterator<Item = u32> {
     let leaf = matches!(kind, kind::VARIABLE | kind::CONSTANT | kind::SIZE);
     let first = (!leaf).then_some(a);
-    let second = (kind == kind::SUM).then_some(b);
+    let second = matches!(kind, kind::SUM | kind::COPY).then_some(b);
     first.into_iter().chain(second)
 }
 
@@ -238,7 +264,7 @@ fn renumber([kind, a, b]: [u32; 3], place_of: &[u32]) -> [u32; 3] {
     let new = |child: u32| place_of[child as usize];
     match kind {
         kind::VARIABLE | kind::CONSTANT | kind::SIZE => [kind, a, b],
-        kind::SUM => [kind, new(a), new(b)],
+        kind::SUM | kind::COPY => [kind, new(a), new(b)],
         _ => [kind, new(a), b],
     }
 }

@@ -105,12 +105,12 @@ fn node(random: &mut Random, i: u32, counts: [u32; 3], b: u32) -> [u32; 3] {
     };
     let kind = match i {
         0 => random.pick(&[kind::VARIABLE, kind::VARIABLE, kind::CONSTANT, kind::SIZE]),
-        _ => random.between(1, 10),
+        _ => random.between(1, 11),
     };
     match kind {
         kind::VARIABLE => [kind, random.below(variables.max(1)), 0],
         kind::CONSTANT => [kind, random.number(), 0],
-        kind::SUM => [kind, child, random.below(i.max(1))],
+        kind::SUM | kind::COPY => [kind, child, random.below(i.max(1))],
         kind::CAST => [kind, child, some_type(random, types)],
         kind::SIZE => [kind, target(random, types, records), 0],
         kind::FIELD => [kind, child, random.below(3)],

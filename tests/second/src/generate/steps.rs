@@ -96,10 +96,16 @@ impl Expressions<'_> {
         self.routine.types.offset(record, b)
     }
 
-    /// A value that is this number: a constant, or now and then a sum.
+    /// A value that is this number: a constant, or now and then a sum, which
+    /// may have a copy in it.
     fn number(&mut self, number: u32) -> u32 {
         if !self.random.percent(15) {
             return self.constant(number);
+        }
+        if self.random.percent(20) {
+            if let Some(sum) = self.number_by_a_copy(number) {
+                return sum;
+            }
         }
         let part = self.random.number();
         let a = self.constant(part);

@@ -53,7 +53,7 @@ impl Expressions<'_> {
     }
 
     /// Across the base, next to it, or as low as the pointer can lead.
-    fn before(&mut self, base: u32, Way { offset, words, .. }: Way) -> u32 {
+    pub(super) fn before(&mut self, base: u32, Way { offset, words, .. }: Way) -> u32 {
         let long = if words > 1 { 40 } else { 0 };
         match self.random.weighted(&[long, 20, 15, 15, 30]) {
             0 => base.wrapping_sub(self.random.between(1, words - 1)),
@@ -66,7 +66,7 @@ impl Expressions<'_> {
 
     /// Across the end, next to it, anywhere, or above 32 bits: just so, or so
     /// that the place modulo 2^32 would be in bounds.
-    fn past(&mut self, known: &Known, Way { offset, words, .. }: Way) -> u32 {
+    pub(super) fn past(&mut self, known: &Known, Way { offset, words, .. }: Way) -> u32 {
         let &Known { base, end, .. } = known;
         let long = if words > 1 { 80 } else { 0 };
         let above = if offset > 0 { 40 } else { 0 };

@@ -61,6 +61,34 @@ impl Types {
         made
     }
 
+    /// Records of ints and pointers, of one word or some or thousands, and
+    /// variables that point to them. Entries are pointers to int, to the first
+    /// record, to each of these pointers, and to the second record if there is
+    /// one.
+    pub fn copied(random: &mut Random) -> Types {
+        const INT_POINTER: u32 = 2;
+        const ROW: u32 = 3;
+        let records = random.between(1, 2);
+        let mut made = Types {
+            pointers: vec![INT, RECORD, INT_POINTER, ROW],
+            variables: vec![ROW, INT],
+            ..Types::default()
+        };
+        made.pointers.extend((1..records).map(|r| RECORD + r));
+        let types = made.count();
+        for _ in 0..records {
+            let fields = match random.weighted(&[10, 82, 8]) {
+                0 => fields(random, 1, types, |_| 1),
+                1 => fields(random, 4, types, |random| random.between(1, 3)),
+                _ => fields(random, 3, types, |random| random.pick(&[100, 1_000, 4_096])),
+            };
+            made.records.push(fields);
+        }
+        let more = (0..random.between(1, 4)).map(|_| random.between(1, types - 1));
+        made.variables.extend(more);
+        made
+    }
+
     /// As many as the limits allow, or nearly.
     pub fn large(random: &mut Random) -> Types {
         let mut near = |limit: u32| match random.below(3) {

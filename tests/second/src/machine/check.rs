@@ -77,6 +77,7 @@ impl Check<'_, '_> {
             kind::CAST => self.cast(i, a, b),
             kind::SIZE => self.size(a, b),
             kind::MALLOC => self.malloc(i, a, b),
+            kind::COPY => self.copy(i, a, b),
             _ => Err(Fault(7, 0)),
         }
     }
@@ -153,6 +154,16 @@ impl Check<'_, '_> {
         Ok(VOID_POINTER)
     }
 
+    /// Two pointers of one type, which points to a record. Apart, so that the
+    /// other kinds keep a short way through `node`.
+    #[inline(never)]
+    fn copy(&mut self, i: usize, a: u32, b: u32) -> Result<u8, Fault> {
+        let to = self.value(i, a, 1)?;
+        let from = self.value(i, b, 2)?;
+        fit(to == from && self.declarations.points_to_record(to))?;
+        Ok(INT)
+    }
+
     /// The type of a child that has to be a value with a number below `i`.
     #[inline(always)]
     fn value(&mut self, i: usize, child: u32, word: usize) -> Result<u8, Fault> {
@@ -221,7 +232,7 @@ impl Check<'_, '_> {
             if !matches!(kind, kind::VARIABLE | kind::CONSTANT | kind::SIZE) {
                 counts[a as usize] += 1;
             }
-            if kind == kind::SUM {
+            if matches!(kind, kind::SUM | kind::COPY) {
                 counts[b as usize] += 1;
             }
         }

@@ -132,7 +132,14 @@ impl Declarations {
         (pointer != 0).then_some(pointer)
     }
 
-    /// How many words each 1 added to a value of this type moves it by.
+    /// Whether a type is that of pointers to a record.
+    #[inline(always)]
+    pub fn points_to_record(&self, typ: u8) -> bool {
+        (RECORD_MARK..NOTHING).contains(&self.target[typ as usize])
+    }
+
+    /// How many words each 1 added to a value of this type moves it by. Of a
+    /// pointer to a record, that is the record's size.
     #[inline(always)]
     pub fn step(&self, typ: u8) -> u32 {
         self.step[typ as usize]

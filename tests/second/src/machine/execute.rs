@@ -160,10 +160,11 @@ impl<'m, W: Watch> Memory<'m, W> {
             kind::ADDRESS => self.place(a),
             kind::CAST => self.cast(a),
             kind::SIZE => self.declarations.size(self.layout, a),
-            _ => {
+            kind::MALLOC => {
                 let words = self.value(a)?;
                 self.malloc(words)
             }
+            _ => self.copy(node, a, b),
         }
     }
 
@@ -225,5 +226,43 @@ impl<'m, W: Watch> Memory<'m, W> {
         self.end = self.unused;
         self.watch.block(self.base, words);
         Some(self.base)
+    }
+
+    /// "Both are evaluated, then a's place is checked for the record's size,
+    /// then b's": a place is where its pointer points, and nothing is written
+    /// before both have passed. Apart, for the same reason as `sum_of`.
+    #[inline(never)]
+    fn copy(&mut self, node: u32, a: u32, b: u32) -> Option<u32> {
+        let words = self.declarations.step(self.notes[a as usize]);
+        let to = self.value(a)?;
+        let bounds_of_to = (self.base, self.end);
+        let from = self.value(b)?;
+        let bounds_of_from = (self.base, self.end);
+        (self.base, self.end) = bounds_of_to;
+        self.record(node, to, words)?;
+        (self.base, self.end) = bounds_of_from;
+        self.record(node, from, words)?;
+        self.move_words(from as usize, to as usize, words as usize);
+        Some(words)
+    }
+
+    /// The check for a whole record at `v`, in exact sums as for a field.
+    #[inline(always)]
+    fn record(&mut self, node: u32, v: u32, words: u32) -> Option<()> {
+        let end = u64::from(v) + u64::from(words);
+        if self.base <= v && end <= u64::from(self.end) {
+            return Some(());
+        }
+        self.not_passed(node, u64::from(v), words);
+        None
+    }
+
+    /// Words go "with value, base and end, as they were before the copy, even
+    /// where the two overlap".
+    #[inline(always)]
+    fn move_words(&mut self, from: usize, to: usize, words: usize) {
+        for list in [&mut *self.values, &mut *self.bases, &mut *self.ends] {
+            list.copy_within(from..from + words, to);
+        }
     }
 }

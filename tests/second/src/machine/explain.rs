@@ -16,7 +16,7 @@ pub enum Reason {
 /// The check that ended a run.
 #[derive(Clone, Copy, Debug, PartialEq, Eq)]
 pub struct Explanation {
-    /// The follow or the field.
+    /// The follow, the field or the copy.
     pub node: u32,
     /// The place wanted, an exact sum: it may not fit in 32 bits.
     pub place: u64,

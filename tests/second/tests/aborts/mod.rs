@@ -39,6 +39,9 @@ fn kind_and_reason(table: &Table, told: &Explanation) -> &'static str {
         (kind::DEREF, 1) => "follow, no bounds",
         (kind::DEREF, 2) => "follow, before the base",
         (kind::DEREF, _) => "follow, past the end",
+        (kind::COPY, 1) => "copy, no bounds",
+        (kind::COPY, 2) => "copy, before the base",
+        (kind::COPY, _) => "copy, past the end",
         (_, 1) => "field, no bounds",
         (_, 2) => "field, before the base",
         _ => "field, past the end",
@@ -95,6 +98,7 @@ fn position(table: &Table, command: u32, node: u32) -> BTreeSet<&'static str> {
             [kind::SUM, ..] => "on the right of a sum",
             [kind::CAST, ..] => "below a cast",
             [kind::MALLOC, ..] => "in a count of words",
+            [kind::COPY, ..] => "in an operand of a copy",
             _ => "read, or its address taken",
         });
         at = parent;
@@ -115,12 +119,12 @@ fn position(table: &Table, command: u32, node: u32) -> BTreeSet<&'static str> {
 fn children([kind, a, b]: [u32; 3]) -> Vec<u32> {
     match kind {
         kind::VARIABLE | kind::CONSTANT | kind::SIZE => Vec::new(),
-        kind::SUM => vec![a, b],
+        kind::SUM | kind::COPY => vec![a, b],
         _ => vec![a],
     }
 }
 
-fn parent(table: &Table, node: u32) -> Option<u32> {
+pub fn parent(table: &Table, node: u32) -> Option<u32> {
     let above = node + 1..table.counts[4] as u32;
     let mut parents = above.filter(|&p| children(table.node(p as usize)).contains(&node));
     parents.next()
@@ -131,6 +135,6 @@ fn has_check_below(table: &Table, node: u32) -> bool {
         .into_iter()
         .any(|child| {
             let [kind, ..] = table.node(child as usize);
-            matches!(kind, kind::DEREF | kind::FIELD) || has_check_below(table, child)
+            matches!(kind, kind::DEREF | kind::FIELD | kind::COPY) || has_check_below(table, child)
         })
 }

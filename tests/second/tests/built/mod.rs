@@ -1,5 +1,7 @@
 //! Routines built node by node, so that the number of each is known.
 
+#![allow(dead_code)] // Not every test needs all kinds of nodes.
+
 use crate::ran::words;
 
 /// Routine A's record, of two fields of two ints each. Pointer types: to it,
@@ -67,6 +69,10 @@ impl Routine {
         self.node(10, words, 0)
     }
 
+    pub fn copy(&mut self, to: u32, from: u32) -> u32 {
+        self.node(11, to, from)
+    }
+
     /// The value of a variable.
     pub fn get(&mut self, variable: u32) -> u32 {
         let place = self.variable(variable);
@@ -93,12 +99,17 @@ impl Routine {
         self.follow(pointer)
     }
 
-    /// `((record*)((void*)variable + n))->field`: n counts words.
-    pub fn field_of(&mut self, variable: u32, n: u32, field: u32) -> u32 {
+    /// `(record*)((void*)variable + n)`: n counts words.
+    pub fn record_at(&mut self, variable: u32, n: u32) -> u32 {
         let pointer = self.get(variable);
         let pointer = self.cast(pointer, VOID_POINTER);
         let pointer = self.plus(pointer, n);
-        let pointer = self.cast(pointer, RECORD_POINTER);
+        self.cast(pointer, RECORD_POINTER)
+    }
+
+    /// `((record*)((void*)variable + n))->field`: n counts words.
+    pub fn field_of(&mut self, variable: u32, n: u32, field: u32) -> u32 {
+        let pointer = self.record_at(variable, n);
         self.field(pointer, field)
     }
 }

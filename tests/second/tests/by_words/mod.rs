@@ -49,7 +49,7 @@ fn nodes(table: &Table) -> (Vec<[u32; 3]>, Vec<u32>) {
                 let at = nodes.len() as u32;
                 nodes.extend([[8, new(a), 1], [5, at, new(b)], [8, at + 1, typ]]);
             }
-            5 => nodes.push([kind, new(a), new(b)]),
+            5 | 11 => nodes.push([kind, new(a), new(b)]),
             _ => nodes.push([kind, new(a), b]),
         }
         numbers.push(nodes.len() as u32 - 1);

@@ -30,6 +30,12 @@ const MAXIMA: [usize; 6] = [32, 128, 64, 64, 512, 256];
 
 impl Table<'_> {
     pub fn check(words: &[u32]) -> Found<Table<'_>> {
+        let (table, found) = Table::read(words);
+        found.map(|()| table)
+    }
+
+    /// The table, as far as it is right.
+    pub fn read(words: &[u32]) -> (Table<'_>, Found<()>) {
         let mut table = Table {
             words,
             counts: [0; 6],
@@ -37,20 +43,25 @@ impl Table<'_> {
             nodes: Vec::new(),
             uses: Vec::new(),
         };
-        table.sections()?;
-        table.records()?;
-        table.fields()?;
-        table.pointers()?;
-        table.variables()?;
-        for i in 0..table.counts[4] {
-            table.check_node(i)?;
+        let found = table.all();
+        (table, found)
+    }
+
+    fn all(&mut self) -> Found<()> {
+        self.sections()?;
+        self.records()?;
+        self.fields()?;
+        self.pointers()?;
+        self.variables()?;
+        for i in 0..self.counts[4] {
+            self.check_node(i)?;
         }
-        for i in 0..table.counts[5] {
-            table.command(i)?;
+        for i in 0..self.counts[5] {
+            self.command(i)?;
         }
-        match table.uses.iter().position(|&uses| uses != 1) {
-            Some(node) => refuse(9, table.starts[4] + 3 * node),
-            None => Ok(table),
+        match self.uses.iter().position(|&uses| uses != 1) {
+            Some(node) => refuse(9, self.starts[4] + 3 * node),
+            None => Ok(()),
         }
     }
 
@@ -164,20 +175,12 @@ impl Table<'_> {
     fn check_node(&mut self, i: usize) -> Found<()> {
         let [kind, a, b] = self.node(i);
         let at = self.place(4, i, 0);
-        if !(1..=10).contains(&kind) {
+        if !(1..=11).contains(&kind) {
             return refuse(7, at);
         }
         let first = self.first_child(kind, a, at)?;
-        if kind == 5 && self.used(b, Value, at + 2)? != 0 {
-            return refuse(8, at);
-        }
-        if kind == 8 && !self.is_type(b) {
-            return refuse(5, at + 2);
-        }
-        if !matches!(kind, 3 | 5 | 8) && b != 0 {
-            return refuse(7, at + 2);
-        }
-        let Some(typ) = self.type_of(kind, a, b, first) else {
+        let second = self.second_child(kind, b, at)?;
+        let Some(typ) = self.type_of([kind, a, b], first, second) else {
             return refuse(8, at);
         };
         let class = if kind <= 3 { Place } else { Value };
@@ -197,7 +200,20 @@ impl Table<'_> {
         }
     }
 
-    fn type_of(&self, kind: u32, a: u32, b: u32, first: u32) -> Option<u32> {
+    /// Word b of a node, and the type of the child it names, if it does.
+    fn second_child(&mut self, kind: u32, b: u32, at: usize) -> Found<u32> {
+        match kind {
+            5 | 11 => self.used(b, Value, at + 2),
+            8 if !self.is_type(b) => refuse(5, at + 2),
+            3 | 8 => Ok(0),
+            _ if b != 0 => refuse(7, at + 2),
+            _ => Ok(0),
+        }
+    }
+
+    /// The type of a node whose children have these types. None where that
+    /// doesn't fit.
+    fn type_of(&self, [kind, a, b]: [u32; 3], first: u32, second: u32) -> Option<u32> {
         match kind {
             1 => Some(self.word(3, a as usize, 0)),
             2 => self.target(first).filter(|&target| target < 65_536),
@@ -207,13 +223,18 @@ impl Table<'_> {
                 Some(self.word(1, field, 0))
             }
             4 | 9 => Some(0),
-            5 | 6 => Some(first),
+            5 => (second == 0).then_some(first),
+            6 => Some(first),
             7 => {
                 let entry = (0..self.counts[2]).find(|&i| self.word(2, i, 0) == first)?;
                 Some(2 + entry as u32)
             }
             8 => Some(b),
-            _ => (first == 0).then_some(1),
+            10 => (first == 0).then_some(1),
+            _ => {
+                let record = self.is_record(self.target(first)?);
+                (record && first == second).then_some(0)
+            }
         }
     }
 
@@ -242,6 +263,7 @@ impl Table<'_> {
         let fields = first..first + b as usize;
         fields.map(|f| u64::from(self.word(1, f, 1))).sum()
     }
+
     /// How many words a record has.
     pub fn size(&self, record: usize) -> u64 {
         self.words_before(record, self.word(0, record, 0))
