@@ -40,10 +40,10 @@ def named(routine, pair, option):
     name, equals, rest = pair.partition("=")
     if not equals:
         raise Usage(f"mavis: {option} takes NAME=.., not {pair!r}")
-    if name not in routine.names.variables:
-        known = ", ".join(routine.names.variables) or "none"
-        raise Usage(f"mavis: {option}: there is no variable {name}; there are: {known}")
-    return routine.names.variables.index(name), rest
+    own = routine.names.own
+    if name not in own:
+        raise Usage(f"mavis: {option}: there is no variable {name}; there are: {', '.join(own) or 'none'}")
+    return own.index(name), rest
 
 
 def inputs_of(routine, pairs, inputs=None):

@@ -1,6 +1,7 @@
 """The commands of `mavis`: from options to lines and an exit status."""
 
 from .arguments import inputs_of, memory_length, read_file, registers_of
+from .copies import told_apart
 from .endings import Ending
 from .errors import REFUSED, Faulty, Usage
 from .listing import listing
@@ -34,6 +35,7 @@ def run(options):
     elif answer.ending == "refused":
         print(shown_refusal(routine, text, call, answer))
     else:
+        answer = told_apart(machine, call, answer)
         regions = Regions(routine, machine, call, answer)
         print("\n".join(Ending(routine, machine, call, answer, regions).lines() + memory_lines(regions, routine)))
     return STATUS[answer.ending]
@@ -66,7 +68,7 @@ def report(options):
     if answer.ending == "refused":
         page = refused_page(routine, text, call, answer, shown_refusal(routine, text, call, answer))
     else:
-        page = run_page(routine, machine, call, answer)
+        page = run_page(routine, machine, call, told_apart(machine, call, answer))
     write(options.output, page)
     return STATUS[answer.ending]
 

@@ -5,7 +5,7 @@ from functools import cached_property
 
 from .machine import LONGEST
 from .regions import obtained
-from .table import FIELD, MALLOC, VARIABLE
+from .table import COPY, FIELD, MALLOC, VARIABLE
 from .wording import counted
 
 NO_BOUNDS, BEFORE_BASE, PAST_END = 1, 2, 3  # the machine's reasons
@@ -31,9 +31,9 @@ class Ending:
     def abort(self):
         """Like a compiler's message, then what was wanted, whose bounds they are, the miss and the values."""
         cause = self.answer.cause
-        name = self.regions.word_name(cause.place)
+        name = self.wanted_name(cause)
         told = [
-            self.routine.node_spans[cause.node].shown(f"abort: {self.reason(cause)}"),
+            self.routine.check_span(cause).shown(f"abort: {self.reason(cause)}"),
             f"  wanted: {counted(cause.words, 'word')} at {cause.place}{f': {name}' if name else ''}",
             f"  bounds: {self.bounds(cause)}",
             f"  missed: {self.missed(cause)}",
@@ -42,8 +42,13 @@ class Ending:
         ]
         return [line for line in told if cause.reason != NO_BOUNDS or not line.startswith("  missed")]
 
+    def wanted_name(self, cause):
+        """What stands at the place wanted: a word, or the record that a copy wanted."""
+        is_copy = self.table.nodes[cause.node][0] == COPY
+        return self.regions.word_name(cause.place, self.table.node_type(self.routine.pointer(cause)) if is_copy else None)
+
     def reason(self, cause):
-        text = self.routine.node_name(cause.node)
+        text = self.routine.check_name(cause)
         if cause.reason == NO_BOUNDS:
             return f"{text} follows a pointer without bounds"
         return f"{text} is {self.missed(cause)} of its bounds"
@@ -62,7 +67,8 @@ class Ending:
 
     def values(self, cause):
         """The pointer that was followed, and the variables in it."""
-        kind, pointer, field = self.table.nodes[cause.node]
+        kind, _, field = self.table.nodes[cause.node]
+        pointer = self.routine.pointer(cause)
         offset = self.table.offset(self.table.record_of(self.table.node_type(pointer)), field) if kind == FIELD else 0
         told = {self.routine.unparser.text(pointer): cause.place - offset}
         for node in self.table.worked_out(pointer):

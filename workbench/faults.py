@@ -5,8 +5,8 @@ from dataclasses import dataclass
 from functools import cached_property
 from typing import Callable
 
-from .table import ADDRESS, DEREF, FIELD, FIELD_WORDS, FIRST_POINTER, INT, KIND_NAMES, MALLOC, OPERANDS, PLACE, RECORD, SECTIONS, SUM
-from .table import UNUSED, VALUE, Spot, Table, spot
+from .table import ADDRESS, COPY, DEREF, FIELD, FIELD_WORDS, FIRST_POINTER, INT, KIND_NAMES, MALLOC, OPERANDS, PLACE, RECORD, SECTIONS
+from .table import SUM, UNUSED, VALUE, Spot, Table, spot
 from .wording import a_type, base_of, counted, listed, node_words, type_words
 
 RECORDS, FIELDS, POINTERS, VARIABLES, NODES, COMMANDS = SECTIONS
@@ -245,6 +245,8 @@ def wrong_types(case):
         return (title, *types_of_command(table, *table.commands[at.entry]))
     kind, a, b = table.nodes[at.entry]
     type_ = table.node_type(a)
+    if kind == COPY:
+        return title, types_of_copy(table, a, b), copy_that_fits(table, a, b)
     if kind == ADDRESS:
         return (
             title,
@@ -265,6 +267,25 @@ def types_of_command(table, place, value):
     type_, other = table.node_type(place), table.node_type(value)
     wrong = f"the place, {node_name(table, place)}, is {a_type(table, type_)}, and the value, {node_name(table, value)}, is {a_type(table, other)}"
     return wrong, f"a value of type {type_words(table, type_)}: a cast (kind 8) of node {value} to type {type_}"
+
+
+def types_of_copy(table, a, b):
+    told = [f"{name}, {node_name(table, node)}, is {a_type(table, table.node_type(node))}" for name, node in (("a", a), ("b", b))]
+    return f"{told[0]}, and {told[1]}; kind 11 copies between two pointers to one record"
+
+
+def copy_that_fits(table, a, b):
+    """What would fit where the operands of a copy do not: both of the type that one of them has, or of any that points to a record. As for other
+    nodes, a cast from int is not proposed."""
+    own = [table.node_type(a), table.node_type(b)]
+    types = [other for other in (*own, *range(FIRST_POINTER, FIRST_POINTER + len(table.pointers))) if points_to_record(table, other)]
+    if not types:
+        return f"two pointers to one record; section 3 has none (its target would be {RECORD} + a record)"
+    wanted = f"type {types[0]} ({type_words(table, types[0])})"
+    cast = [f"node {node}" for node, type_ in zip((a, b), own) if type_ not in (INT, types[0])]
+    if INT in own or not cast:
+        return f"two pointers to one record, such as {wanted}"
+    return f"two pointers to one record: {'a cast' if len(cast) == 1 else 'casts'} (kind 8) of {listed(cast)} to {wanted}"
 
 
 def typed_operand(table, number, need, child):

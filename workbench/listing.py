@@ -2,6 +2,7 @@
 
 from collections import defaultdict
 
+from .names import COPIED
 from .table import FIRST_POINTER
 
 
@@ -30,7 +31,8 @@ def declared(entries, routine, scope):
             number += 1
     for variable in scope.variables.values():
         word = table.variables[variable.number]
-        entries[variable.span.line].append(f"variable {variable.number}: {word}, {names.type(table, word)}, word {1 + variable.number}")
+        what = f": {COPIED}, by the last struct assignment" if variable.name == COPIED else ""
+        entries[variable.span.line].append(f"variable {variable.number}: {word}, {names.type(table, word)}, word {1 + variable.number}{what}")
 
 
 def commanded(entries, routine):

@@ -22,7 +22,7 @@ CHECK, EXPLAIN = 1, 2  # calls: the check alone; a run with its explanation
 
 @dataclass(frozen=True)
 class Cause:
-    """Why a run aborted: document 02, request 4."""
+    """Why a run aborted: document 02, request 4. `operand` says which of the node's pointers it was, 0 for a: the machine does not tell it."""
 
     node: int
     place: int
@@ -31,6 +31,7 @@ class Cause:
     end: int
     reason: int
     first: int
+    operand: int = 0
 
 
 @dataclass(frozen=True)

@@ -4,6 +4,8 @@ from dataclasses import dataclass
 
 from .table import INT, RECORD, VOID_POINTER
 
+COPIED = "(words copied)"  # the variable that has how many words the last assignment of a whole struct copied; no name in C has brackets
+
 
 @dataclass(frozen=True)
 class FieldName:
@@ -24,6 +26,11 @@ class Names:
         """Names for a table that no C goes with."""
         fields = [FieldName(f"f{number}", table.fields[first + number][1] > 1) for first, number in field_numbers(table)]
         return Names([f"v{i}" for i in range(len(table.variables))], [f"r{i}" for i in range(len(table.records))], fields)
+
+    @property
+    def own(self):
+        """The variables that the routine itself has, which a caller can name."""
+        return [name for name in self.variables if name != COPIED]
 
     def type(self, table, word, seen=()):
         """A type, or a target, as C writes it."""

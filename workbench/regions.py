@@ -88,6 +88,12 @@ class Regions:
         index = f"[{offset - first}]" if name.is_array else ""
         return f"{prefix}{name.name}{index}", type, (start, start + count)
 
+    def record_around(self, region, word):
+        """The first word of the record that a word is in, and the word after it."""
+        size = self.table.record_size(region.unit - RECORD)
+        start = word - (word - region.start) % size
+        return start, start + size
+
     def field_at(self, record, offset):
         """The field of a record that has the word at this offset: name, type, offset and words."""
         first, after = self.table.record_fields(record)
@@ -121,6 +127,8 @@ class Regions:
         name, _, extent = self.at(region, base)
         if (base, end) == extent and region.unit is not None and region.unit >= RECORD:
             return f"{region.title}, {name.removesuffix('[0]')}"
+        if region.unit is not None and region.unit >= RECORD and (base, end) == self.record_around(region, base):
+            return f"{region.title}, {name.partition('.')[0]}"
         last = self.at(region, end - 1)[0]
         return f"{region.title}, {name}" + (f" to {last}" if end - base > 1 else "")
 

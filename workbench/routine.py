@@ -1,16 +1,17 @@
 """A routine as the commands work on it: a table with names and the stretches of text that its parts come from."""
 
-from dataclasses import dataclass
+from dataclasses import dataclass, field
 
 from .names import Names
 from .source import Source
-from .table import Table
+from .table import COPY, Table
 from .unparse import Unparser
 
 
 @dataclass
 class Routine:
-    """`node_spans` and `command_spans` say where a node and a command stand: in the C, or in the text of numbers."""
+    """`node_spans` and `command_spans` say where a node and a command stand: in the C, or in the text of numbers. `struct_spans` says of a copy
+    in C where the struct that is written and the one that is read stand."""
 
     source: Source
     table: Table
@@ -18,6 +19,7 @@ class Routine:
     node_spans: list
     command_spans: list
     scope: object = None  # the declarations, where there is C
+    struct_spans: dict = field(default_factory=dict)
 
     @property
     def is_c(self):
@@ -32,6 +34,23 @@ class Routine:
         if self.is_c:
             return f"`{self.node_spans[number].text}`"
         return f"node {number}, `{self.unparser.text(number)}`,"
+
+    def check_span(self, cause):
+        """Where the check stands that a run failed: a follow or a field, or the struct that a copy could not write or read."""
+        spans = self.struct_spans.get(cause.node)
+        return spans[cause.operand] if spans else self.node_spans[cause.node]
+
+    def check_name(self, cause):
+        """That check in a sentence."""
+        if self.is_c:
+            return f"`{self.check_span(cause).text}`"
+        is_copy = self.table.nodes[cause.node][0] == COPY
+        struct = f"`{self.unparser.struct(self.pointer(cause))}` in " if is_copy else ""
+        return f"{struct}{self.node_name(cause.node)}"
+
+    def pointer(self, followed):
+        """The pointer by which a check goes."""
+        return self.table.nodes[followed.node][1 + followed.operand]
 
     def node_lines(self, command):
         """The nodes of a command: number, words, and how C writes it."""

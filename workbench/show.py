@@ -31,11 +31,16 @@ def declarations(routine):
     lines = []
     for record in range(len(routine.table.records)):
         lines += record_lines(routine, record)
-    for number, name in enumerate(routine.names.variables):
-        type = routine.table.variables[number]
-        comment = f"variable {number}: {type}, word {1 + number}"
-        lines.append(f"{declared(routine, type, name)} /* {comment} */" if is_finite(routine, type) else f"/* {UNSAYABLE} {comment} */")
-    return lines + [""]
+    return lines + [variable_line(routine, number) for number in range(len(routine.table.variables))] + [""]
+
+
+def variable_line(routine, number):
+    """A variable. The one that struct assignments make is not declared."""
+    type, name = routine.table.variables[number], routine.names.variables[number]
+    comment = f"variable {number}: {type}, word {1 + number}"
+    if number == routine.table.copied():
+        return f"/* {comment}, which the struct assignments make */"
+    return f"{declared(routine, type, name)} /* {comment} */" if is_finite(routine, type) else f"/* {UNSAYABLE} {comment} */"
 
 
 def record_lines(routine, record):

@@ -6,7 +6,7 @@ RECORD = 65536  # a target or a size names record r as RECORD + r
 WORD = 1 << 32  # words are below this
 INT, VOID_POINTER, FIRST_POINTER = 0, 1, 2  # types: int, pointer to void, pointer entry 0
 
-(VARIABLE, DEREF, FIELD, CONSTANT, SUM, READ, ADDRESS, CAST, SIZE, MALLOC) = range(1, 11)
+(VARIABLE, DEREF, FIELD, CONSTANT, SUM, READ, ADDRESS, CAST, SIZE, MALLOC, COPY) = range(1, 12)
 KIND_NAMES = {
     VARIABLE: "variable",
     DEREF: "follow",
@@ -18,6 +18,7 @@ KIND_NAMES = {
     CAST: "cast",
     SIZE: "size",
     MALLOC: "malloc",
+    COPY: "copy",
 }
 # What a node's a and b are.
 VALUE, PLACE, UNUSED = "value", "place", "unused"
@@ -32,6 +33,7 @@ OPERANDS = {
     CAST: (VALUE, "type"),
     SIZE: ("target", UNUSED),
     MALLOC: (VALUE, UNUSED),
+    COPY: (VALUE, VALUE),
 }
 FIELD_WORDS = 4096  # the most words that a field has
 
@@ -132,7 +134,7 @@ class Table:
             return b
         if kind == MALLOC:
             return VOID_POINTER
-        return INT if kind in (CONSTANT, SIZE) else self.node_type(a)
+        return INT if kind in (CONSTANT, SIZE, COPY) else self.node_type(a)
 
     def children(self, number):
         """A node's own nodes, in the order in which they are worked out."""
@@ -151,6 +153,14 @@ class Table:
         """A command's nodes in the order in which they are worked out. Each node is used once, so they are its two trees."""
         place, value = self.commands[command]
         return self.worked_out(place) + self.worked_out(value)
+
+    def copied(self):
+        """The variable that C's assignments of whole structs have as their place: the last one, an int, in commands whose value is a copy and
+        nowhere else. None where there is no such variable."""
+        last = len(self.variables) - 1
+        named = {number for number, (kind, a, _) in enumerate(self.nodes) if (kind, a) == (VARIABLE, last)}
+        places = {place for place, value in self.commands if self.nodes[value][0] == COPY}
+        return last if named and named <= places and self.variables[last] == INT else None
 
 
 @dataclass(frozen=True)

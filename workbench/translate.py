@@ -5,10 +5,10 @@ from .c.expressions import Node
 from .c.parse import parse
 from .c.statements import Reader
 from .errors import Faulty
-from .names import FieldName, Names
+from .names import COPIED, FieldName, Names
 from .routine import Routine
 from .source import Source
-from .table import ADDRESS, FIRST_POINTER, INT, RECORD, SECTIONS, VOID_POINTER, Table
+from .table import ADDRESS, COPY, FIRST_POINTER, INT, RECORD, SECTIONS, VOID_POINTER, Table
 
 CALLED = {"records": "structs", "pointers": "pointer types"}
 
@@ -23,7 +23,7 @@ class Numbering:
     """Gives types, variables and nodes their numbers: pointer types as they are met, nodes as they are worked out."""
 
     def __init__(self, text):
-        self.text, self.table, self.node_spans = text, Table(), []
+        self.text, self.table, self.node_spans, self.struct_spans = text, Table(), [], {}
 
     def routine(self):
         scope = self.text.scope
@@ -37,7 +37,7 @@ class Numbering:
         fields = [FieldName(member.name, isinstance(member.type, types.Array)) for member in members]
         names = Names(list(scope.variables), [record.tag for record in scope.records], fields)
         spans = [command.span for command in self.text.commands]
-        return Routine(self.text.source, self.table, names, self.node_spans, spans, scope)
+        return Routine(self.text.source, self.table, names, self.node_spans, spans, scope, self.struct_spans)
 
     def type(self, type):
         """The number of a type; a pointer type gets an entry when it is first met."""
@@ -58,13 +58,15 @@ class Numbering:
         if node.kind == ADDRESS:
             self.type(node.type)  # the table must have the type, though no word of the node names it
         operands = [self.operand(part) for part in (node.a, node.b)]
+        if node.kind == COPY:
+            self.struct_spans[len(self.table.nodes)] = (node.a.span, node.b.span)
         self.table.nodes.append((node.kind, *operands))
         self.node_spans.append(node.span)
         return len(self.table.nodes) - 1
 
     def operand(self, part):
         if isinstance(part, Node):
-            return self.node(part)
+            return self.node(part if part.kind is not None else part.a)  # a whole struct goes by its pointer
         return part if isinstance(part, int) else self.target(part)
 
     def refuse_too_many(self, members):
@@ -72,8 +74,14 @@ class Numbering:
         counts = {section: len(getattr(self.table, section.name)) for section in SECTIONS}
         over = [section for section, count in counts.items() if count > section.most]
         if over:
-            told = " and ".join(f"{counts[section]} {CALLED.get(section.name, section.name)} (at most {section.most})" for section in over)
+            told = " and ".join(f"{counts[section]} {self.called(section)} (at most {section.most})" for section in over)
             raise Faulty(self.span_of(over[0], members), f"the routine has {told}")
+
+    def called(self, section):
+        """A section's entries in a sentence; of the variables also the one that the text does not declare."""
+        if section.name == "variables" and COPIED in self.text.scope.variables:
+            return "variables, with one for its struct assignments"
+        return CALLED.get(section.name, section.name)
 
     def span_of(self, section, members):
         """The stretch of the first entry that a section does not take any more."""

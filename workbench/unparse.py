@@ -1,6 +1,6 @@
 """Nodes of a table as C."""
 
-from .table import ADDRESS, CAST, CONSTANT, DEREF, FIELD, MALLOC, READ, SIZE, SUM, VARIABLE, WORD
+from .table import ADDRESS, CAST, CONSTANT, COPY, DEREF, FIELD, MALLOC, READ, SIZE, SUM, VARIABLE, WORD
 
 # How tightly a text holds together: it needs brackets where something tighter is wanted.
 POSTFIX, UNARY, ADDITIVE = 3, 2, 1
@@ -42,8 +42,10 @@ class Unparser:
             return f"({self.names.type(self.table, b)}){self.tight(a, UNARY)}", UNARY
         if kind == SIZE:
             return f"sizeof({self.names.type(self.table, a)})", UNARY
-        assert kind == MALLOC
-        return f"malloc({self.text(a)})", POSTFIX
+        if kind == MALLOC:
+            return f"malloc({self.text(a)})", POSTFIX
+        assert kind == COPY
+        return f"copy({self.text(a)}, {self.text(b)})", POSTFIX  # C has no such value: only `*a = *b`, as a command
 
     def followed(self, pointer):
         """What a pointer points to: with an index where it is a sum."""
@@ -74,6 +76,14 @@ class Unparser:
             return self.member(place), POSTFIX
         return f"&{self.tight(place, UNARY)}", UNARY
 
+    def struct(self, pointer):
+        """The whole struct that a pointer points to."""
+        return self.followed(pointer)[0]
+
     def command(self, number):
+        """A command; where C has it as an assignment of a whole struct, that."""
         place, value = self.table.commands[number]
+        kind, a, b = self.table.nodes[value]
+        if kind == COPY and self.table.nodes[place][:2] == (VARIABLE, self.table.copied()):
+            return f"{self.struct(a)} = {self.struct(b)};"
         return f"{self.text(place)} = {self.text(value)};"

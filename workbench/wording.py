@@ -1,6 +1,6 @@
 """Types, nodes and numbers in words, for messages."""
 
-from .table import ADDRESS, CAST, CONSTANT, DEREF, FIELD, FIRST_POINTER, INT, MALLOC, READ, RECORD, SIZE, SUM, VARIABLE, VOID_POINTER
+from .table import ADDRESS, CAST, CONSTANT, COPY, DEREF, FIELD, FIRST_POINTER, INT, MALLOC, READ, RECORD, SIZE, SUM, VARIABLE, VOID_POINTER
 
 STARS = 4  # a longer chain of pointers, or a circular one, goes by its number
 NODE_WORDS = {
@@ -14,6 +14,7 @@ NODE_WORDS = {
     CAST: "a cast of node {a}",
     SIZE: "a size",
     MALLOC: "a malloc of node {a}",
+    COPY: "a copy from node {b} to node {a}",
 }
 
 

@@ -9,6 +9,7 @@ ROOT = Path(__file__).resolve().parent.parent.parent
 sys.path.insert(0, str(ROOT))
 sys.setrecursionlimit(10000)
 
+from workbench.copies import told_apart  # noqa: E402
 from workbench.errors import Faulty  # noqa: E402
 from workbench.machine import Call, Machine  # noqa: E402
 from workbench.translate import translate  # noqa: E402
@@ -61,5 +62,6 @@ def mavis(*arguments, folder=ROOT, **environment):
 def explained(text, memory=64, registers=(0,)):
     """The routine of a C text, and the machine's answer."""
     made = translate("test.c", text)
-    (answer,) = MACHINE.explain([Call(made.table.words(), memory, [0] * len(made.table.variables), list(registers))])
-    return made, answer
+    call = Call(made.table.words(), memory, [0] * len(made.table.variables), list(registers))
+    (answer,) = MACHINE.explain([call])
+    return made, told_apart(MACHINE, call, answer)

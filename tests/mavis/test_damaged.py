@@ -62,7 +62,7 @@ OTHERS += [
 ]
 WHOLE = routine(
     "p = malloc(sizeof(struct calls));\nq = p->queue;\nq[1] = n + 3;\n*(q + 1) += 2;\nat = (struct call *)malloc(sizeof *at + 2);\n"
-    "at->next = at;\nat->floors[1] = &(*at).people;\nr = at->next->floors;\n**r = -1;\nv = (void *)&p;\nn = (int)v - 4;\nint k = 0, *j = &k;"
+    "at->next = at;\n*at->next = at[0];\n*p = *(struct calls *)q;\nat->floors[1] = &(*at).people;\nr = at->next->floors;\n**r = -1;\nv = (void *)&p;\nn = (int)v - 4;\nint k = 0, *j = &k;"
 )
 ACCEPTED = ("-m32", "-w", "-fsyntax-only", "-fmax-errors=1", "-x", "c")
 

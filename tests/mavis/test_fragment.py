@@ -58,6 +58,12 @@ SAME = [
     ("n = sizeof malloc(3);", "n = sizeof(void *);"),
     ("q = (unsigned *)v;", "q = (int *)v;"),
     ("q = (uint32_t *)v;", "q = (int *)v;"),
+    ("*p = *p;", "p[0] = p[0];"),
+    ("*p = *p;", "(*(p)) = *&*p;"),
+    ("p[1] = *p;", "*(p + 1) = *p;"),
+    ("*(1 + p) = p[n];", "1[p] = *&p[n];"),
+    ("*at = at->next[0];", "*at = *at->next;"),
+    ("*(struct calls *)v = *p;", "((struct calls *)v)[0] = *p;"),
     ("n = 1; ; m = 2;", "n = 1; m = 2;"),
     ("n = 1; /* twice */ // n = 2;", "n = 1;"),
 ]
@@ -72,6 +78,7 @@ SAME_TEXTS = [
     ("int n; int *q; void f(void) { n = 3; q = &n; }", "int n; void f(void) { n = 3; int *q; q = &n; }"),
     ("struct s { int a, *b; int c; }; struct s *p; void f(void) { p->c = 1; }", "struct s { int a; int *b, c; } *p; void f(void) { p->c = 1; }"),
     ("struct s { int a[3]; }; struct s *p; void f(void) { p->a[1] = 1; }", "struct s { int a[1 + 2]; } *p; void f(void) { p->a[1] = 1; }"),
+    ("struct s { int a; } *p, *q; int n; void f(void) { *p = *q; n = 1; }", "struct s { int a; } *p, *q; void f(void) { *p = *q; int n = 1; }"),
     ("struct s { struct t *t; }; struct t { struct s *s; }; struct s *p; void f(void) { p = p->t->s; }",
      "struct t; struct s { struct t *t; }; struct t { struct s *s; }; struct s *p; void f(void) { p = p->t->s; }"),
 ]  # fmt: skip
@@ -81,7 +88,15 @@ POINTED = [
     "n = 3 + ⟦m * 2⟧;",
     "n = (⟦(m) * (2 + m)⟧);",
     "q[⟦-m⟧] = 3;",
-    "⟦*(p)⟧ = n;",
+    "*(p) = ⟦n⟧;",
+    "n = ⟦*(p)⟧;",
+    "p[1] = (⟦*at⟧);",
+    "*p = ⟦p->queue⟧;",
+    "*p = ⟦malloc(4)⟧;",
+    "⟦*p⟧ += 1;",
+    "++(⟦*p⟧);",
+    "p = ⟦*p⟧;",
+    "n = malloc(⟦p[1]⟧);",
     "*(q + n) = (int)(⟦n ? 1 : 2⟧);",
     "p->queue[n] = ⟦q⟧;",
     "(⟦(*p).stops⟧)[1] = 3;",
@@ -111,6 +126,21 @@ FOLLOWED = [
     "q = malloc(2);\n q = &⟦q[2]⟧;",
     "q = malloc(2);\n ⟦q[2]⟧++;",
     "int *k = malloc(1), j = ⟦k[1]⟧;",
+    "⟦*p⟧ = *p;",
+    "p = malloc(4);\n ⟦p[1]⟧ = *p;",
+    "p = malloc(4);\n *p = ⟦p[1]⟧;",
+    "p = malloc(4);\n *p = ⟦p[-1]⟧;",
+    "p = malloc(3);\n ⟦*p⟧ = *p;",
+    "p = malloc(4);\n *p = ⟦*(struct calls *)0⟧;",
+    "p = malloc(4);\n v = p;\n *(struct calls *)v = (⟦*(struct calls *)n⟧);",
+    "p = malloc(3);\n ⟦*p⟧ = *(struct calls *)0;",
+    "p = malloc(4);\n *p = ⟦*(struct calls *)1⟧;",
+    "⟦*(struct calls *)0⟧ = *(struct calls *)0;",
+    "⟦*(struct calls *)1⟧ = *(struct calls *)1;",
+    "p = malloc(4);\n ⟦*(struct calls *)1⟧ = *p;",
+    "p = malloc(4);\n p[0] = *p;\n *p = ⟦*(struct calls *)malloc(n + 3)⟧;",
+    "at = malloc(5);\n *at = ⟦*at->next⟧;",
+    "at = malloc(5);\n *⟦at->next->next⟧ = *at;",
 ]
 
 
@@ -152,8 +182,36 @@ class Fragment(unittest.TestCase):
                 text, first, last = split(routine(marked))
                 made, answer = explained(text)
                 self.assertEqual(answer.ending, "abort")
-                span = made.node_spans[answer.cause.node]
+                span = made.check_span(answer.cause)
                 self.assertEqual((span.start, span.text), (first, text[first:last]))
+
+    def test_an_abort_in_a_full_table(self):
+        """Which struct failed is asked of a table that is no longer than the routine's."""
+        for statement, failed in (("*p = p[1];", "p[1]"), ("p[1] = *p;", "p[1]")):
+            made, answer = explained(routine(f"p = malloc(4);n = 1;{'v = v;' * 166}{statement}"), memory=99)
+            self.assertEqual((len(made.table.nodes), made.check_span(answer.cause).text), (512, failed))
+
+    def test_struct_assignments(self):
+        """The nodes of one, and the variable that they have in common, which comes after those declared behind them."""
+        made = translate("test.c", routine("*p = p[1];\nint late = 1;\n*p = *p;"))
+        last = len(made.table.variables) - 1
+        self.assertEqual(made.names.variables[-2:], ["late", "(words copied)"])
+        self.assertEqual(made.names.own, made.names.variables[:-1])
+        nodes = [(1, last, 0), (1, 0, 0), (6, 1, 0), (1, 0, 0), (6, 3, 0), (4, 1, 0), (5, 4, 5), (11, 2, 6)]
+        self.assertEqual((made.table.nodes[:8], made.table.commands[0], made.table.variables[last]), (nodes, (0, 7), 0))
+        self.assertEqual(made.table.nodes[made.table.commands[2][0]], (1, last, 0))
+        self.assertEqual(translate("test.c", routine("n = 1;")).names.own[-1], "v")
+
+    def test_structs_are_defined_before_they_are_copied(self):
+        found = fault("struct s *p;\nvoid f(void) { *p = *p; }\nstruct s { int a; };")
+        self.assertEqual((found.message, found.span.text), ("struct s is not defined at this point", "*p"))
+
+    def test_names_with_a_meaning(self):
+        """NULL is a macro in C, and so it can't be the name of anything; malloc can be a field's."""
+        for text in ("int NULL; void f(void) { }", "struct s { int NULL; }; void f(void) { }", "struct NULL *p; void f(void) { }"):
+            with self.subTest(text):
+                self.assertEqual(fault(text).message, "NULL has its own meaning in C")
+        translate("test.c", "struct malloc { int malloc; } *p; void f(void) { p->malloc = 1; }")
 
     def test_lines_and_columns(self):
         span = fault("int n;\n\nvoid f(void) {\n\tn = 3;\n\tn = n * 2;\n}\n").span
@@ -164,6 +222,8 @@ class Fragment(unittest.TestCase):
             "771 nodes (at most 512) and 257 commands (at most 256)": routine("n = m;\n" * 257),
             "514 nodes (at most 512)": routine("n = 1" + " + 1" * 256 + ";"),
             "65 variables (at most 64)": "".join(f"int v{i};" for i in range(65)) + "void f(void) { }",
+            "65 variables, with one for its struct assignments (at most 64)": with_copies(64, 1),
+            "66 variables, with one for its struct assignments (at most 64)": with_copies(65, 3),
             "33 structs (at most 32)": "".join(f"struct s{i} {{ int a; }};" for i in range(33)) + "void f(void) { }",
             "129 fields (at most 128)": "struct s { int a" + "".join(f", a{i}" for i in range(128)) + "; }; void f(void) { }",
         }
@@ -174,6 +234,7 @@ class Fragment(unittest.TestCase):
     def test_limits_are_reached(self):
         translate("test.c", routine("n = 1" + " + 1" * 254 + ";"))
         translate("test.c", "".join(f"int v{i};" for i in range(64)) + "void f(void) { }")
+        translate("test.c", with_copies(63, 3))
         translate("test.c", "int n; void f(void) { " + "n = 1; " * 256 + "}")
 
     def test_texts_that_are_no_c(self):
@@ -184,6 +245,12 @@ class Fragment(unittest.TestCase):
     def test_deep_nesting(self):
         deep = "n = " + "(" * 60 + "1" + ")" * 60 + ";"
         self.assertEqual(words(deep), words("n = 1;"))
+
+
+def with_copies(variables, copies):
+    """A text with so many variables, and struct assignments."""
+    declared = ["struct s { int a; };", "struct s *p;", *(f"int v{i};" for i in range(variables - 1))]
+    return "\n".join([*declared, "void f(void) {", *["*p = *p;"] * copies, "}"])
 
 
 def same_as(statement):

@@ -26,7 +26,7 @@ class Messages(unittest.TestCase):
         (declarations,) = [block.lines for block in PAGE.blocks if block.info == "c declarations.c"]
         before = "\n".join(declarations) + "\n"
         inside, outside = (grid.rows for grid in PAGE.grids if grid.columns == COLUMNS)
-        self.assertEqual((len(inside), len(outside)), (35, 21))
+        self.assertEqual((len(inside), len(outside)), (40, 21))
         self.check(inside, lambda code: f"{before}void routine(void) {{\n{code}\n}}\n")
         self.check(outside, lambda code: f"{before}{code}\nvoid routine(void) {{\n}}\n")
 

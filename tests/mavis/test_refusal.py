@@ -82,10 +82,10 @@ FAULTS = [
      "entry 1 has target 1 (void *), and so has entry 0",
      "another target; type 2 is the pointer to void * already"),
     # refused 7 5
-    ("0 0 0 0 1 11 0 0 0",
+    ("0 0 0 0 1 99 0 0 0",
      "section 5 (nodes), entry 0, its kind",
-     "kind 11 is unknown",
-     "a kind from 1 to 10 (1 variable, 2 follow, 3 field, 4 constant, 5 sum, 6 read, 7 address, 8 cast, 9 size and 10 malloc)"),
+     "kind 99 is unknown",
+     "a kind from 1 to 11 (1 variable, 2 follow, 3 field, 4 constant, 5 sum, 6 read, 7 address, 8 cast, 9 size, 10 malloc and 11 copy)"),
     # refused 7 6
     ("0 0 0 0 1 1 0 0 0",
      "section 5 (nodes), entry 0, its a",
@@ -161,6 +161,51 @@ FAULTS = [
      "section 5 (nodes), entry 1, its kind",
      "the place, node 0 (variable 0), is a record 0 *, and section 3 has no pointer to that",
      "an entry of section 3 with target 2: type 5 would be record 0 **"),
+    # refused 8 28
+    ("1 2 2 0 2 0 2 3 65536 0 3 3 2 3 0 5 1 0 0 6 0 0 1 1 0 6 2 0 11 1 3 0",
+     "section 5 (nodes), entry 4, its kind",
+     "a, node 1 (a read of node 0), is a record 0 *, and b, node 3 (a read of node 2), is an int *; "
+     "kind 11 copies between two pointers to one record",
+     "two pointers to one record: a cast (kind 8) of node 3 to type 2 (record 0 *)"),
+    # refused 8 28
+    ("1 2 2 0 2 0 2 3 65536 0 3 3 2 3 0 5 1 1 0 6 0 0 1 0 0 6 2 0 11 1 3 0",
+     "section 5 (nodes), entry 4, its kind",
+     "a, node 1 (a read of node 0), is an int *, and b, node 3 (a read of node 2), is a record 0 *; "
+     "kind 11 copies between two pointers to one record",
+     "two pointers to one record: a cast (kind 8) of node 1 to type 2 (record 0 *)"),
+    # refused 8 28
+    ("1 2 2 0 2 0 2 3 65536 0 3 3 2 3 0 5 1 1 0 6 0 0 1 1 0 6 2 0 11 1 3 0",
+     "section 5 (nodes), entry 4, its kind",
+     "a, node 1 (a read of node 0), is an int *, and b, node 3 (a read of node 2), is an int *; "
+     "kind 11 copies between two pointers to one record",
+     "two pointers to one record: casts (kind 8) of node 1 and node 3 to type 2 (record 0 *)"),
+    # refused 8 25
+    ("1 2 2 0 2 0 2 3 65536 0 3 3 2 3 0 4 1 0 0 6 0 0 4 7 0 11 1 2 0",
+     "section 5 (nodes), entry 3, its kind",
+     "a, node 1 (a read of node 0), is a record 0 *, and b, node 2 (a constant, 7), is an int; "
+     "kind 11 copies between two pointers to one record",
+     "two pointers to one record, such as type 2 (record 0 *)"),
+    # refused 8 15
+    ("0 0 0 1 1 4 1 0 0 6 0 0 4 7 0 11 1 2 0",
+     "section 5 (nodes), entry 3, its kind",
+     "a, node 1 (a read of node 0), is a void *, and b, node 2 (a constant, 7), is an int; kind 11 copies between two pointers to one record",
+     "two pointers to one record; section 3 has none (its target would be 65536 + a record)"),
+    # refused 8 27
+    ("2 1 1 2 0 1 0 1 2 65536 65537 2 2 3 5 1 0 0 6 0 0 1 1 0 6 2 0 11 1 3 0",
+     "section 5 (nodes), entry 4, its kind",
+     "a, node 1 (a read of node 0), is a record 0 *, and b, node 3 (a read of node 2), is a record 1 *; "
+     "kind 11 copies between two pointers to one record",
+     "two pointers to one record: a cast (kind 8) of node 3 to type 2 (record 0 *)"),
+    # refused 7 6
+    ("0 0 0 0 1 11 0 0 0",
+     "section 5 (nodes), entry 0, its a",
+     "child 0 is not below node 0",
+     "a kind without a child, as no node is below this one: 1, 4 or 9"),
+    # refused 7 18
+    ("1 1 1 0 1 1 65536 1 2 3 1 0 0 6 0 0 11 1 2 0",
+     "section 5 (nodes), entry 2, its b",
+     "child 2 is not below node 2",
+     "a node below 2 that is a value"),
     # refused 8 13
     ("0 0 0 1 1 2 1 0 0 4 7 0 1 0 1",
      "section 6 (commands), entry 0, its place node",

@@ -73,7 +73,7 @@ class RoutinesPage(unittest.TestCase):
 
     def test_every_routine_is_listed_once(self):
         plain, with_registers = listed()
-        self.assertEqual((16, 5), (len(plain), len(with_registers)))
+        self.assertEqual((16, 7), (len(plain), len(with_registers)))
         self.assertEqual(2, len(PAGE.grids))
         for suffix in ("c", "txt", "out"):
             with self.subTest(suffix):
@@ -117,7 +117,7 @@ class Routines(unittest.TestCase):
                 continue
             with self.subTest(name):
                 read, routine = read_text(Source(name, content(name, "txt"))), of_c(name)
-                variables = zip(routine.names.variables, routine.table.variables, read.inputs)
+                variables = zip(routine.names.own, routine.table.variables, read.inputs)
                 inputs = [f"--input={variable}={value}" for variable, type, value in variables if type == INT]
                 built = mavis("build", str(FOLDER / f"{name}.c"), f"--memory={read.memory}", *inputs)
                 self.assertEqual((0, content(name, "txt").splitlines()), built)

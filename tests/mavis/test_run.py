@@ -108,6 +108,59 @@ class Runs(unittest.TestCase):
                 for line in expected:
                     self.assertIn(f"  {line}\n", told)
 
+    STRUCTS = "struct car { int floor; int *stop; };\nstruct car *p, *q; int n;\n"
+
+    def test_struct_assignments(self):
+        """All words with their bounds, exactly and by overlap, and how many they were."""
+        statements = "p = malloc(4);\np->floor = 5;\np->stop = &n;\np[1] = *p;\nq = (struct car *)((int *)p + 1);\n*q = *p;"
+        told = self.lines(statements, declarations=self.STRUCTS)[1]
+        self.assertIn("  4  (words copied) = 2", told)
+        block = told[told.index("block 5: 4 words of struct car, obtained in line 4") + 1 :]
+        self.assertEqual(
+            block,
+            [
+                "  5  [0].floor = 5",
+                "  6  [0].stop  = 5  no bounds",
+                "  7  [1].floor = 3  an int over bounds [3, 4): variable n",
+                "  8  [1].stop  = 3  -> variable n, bounds [3, 4): variable n",
+            ],
+        )
+
+    def test_aborts_of_struct_assignments(self):
+        for statements, expected in (
+            (
+                "p = malloc(2);\nq = malloc(1);\n*q = *p;",
+                ["abort: `*q` is 1 word past the end of its bounds", "wanted: 2 words at 7: block 7", "values: q = 7"],
+            ),
+            (
+                "p = malloc(2);\nq = malloc(1);\n*p = *q;",
+                ["abort: `*q` is 1 word past the end of its bounds", "wanted: 2 words at 7: block 7", "values: q = 7"],
+            ),
+            (
+                "p = malloc(4);\np[1] = p[n - 1];",
+                ["abort: `p[n - 1]` is 2 words before the base", "wanted: 2 words at 3: variable n", "values: p + (n - 1) = 3, p = 5, n = 0"],
+            ),
+            ("*p = *q;", ["abort: `*p` follows a pointer without bounds", "wanted: 2 words at 0\n", "bounds: none", "values: p = 0"]),
+            (
+                "p = malloc(5);\n*p = p[2];",
+                ["abort: `p[2]` is 1 word past the end", "wanted: 2 words at 9: block 5, [2]", "missed: 1 word past the end"],
+            ),
+        ):
+            with self.subTest(statements):
+                status, told = self.lines(statements, declarations=self.STRUCTS)
+                self.assertIn("  4  (words copied) = 0", told)
+                told = "\n".join(told)
+                self.assertEqual([status, *(line for line in expected if line not in told)], [1])
+
+    def test_struct_assignments_of_a_text(self):
+        """The struct that failed by name, and the variables by number."""
+        path = in_file(self.folder, routine("p = malloc(2);\n*p = p[n];", self.STRUCTS))
+        text = str(Path(self.folder, "test.txt"))
+        mavis("build", path, "--input", "n=1", "-o", text)
+        output = mavis("run", text)[1]
+        self.assertIn("abort: `v0[v2]` in node 12, `copy(v0, v0 + v2)`, is 2 words past the end of its bounds\n", output)
+        self.assertIn("  4  v3 = 0\n", output)
+
     def test_no_room_asked_and_left(self):
         for statements, options, expected in (
             ("p = malloc(n);", ("--input", "n=13", "--memory", "16"), "`malloc(n)` asks for 13 words, and 12 words of 16 are left"),
@@ -152,6 +205,9 @@ class Use(unittest.TestCase):
             ["run", noroom, "--input", "floors=-2147483649"],
             ["run", noroom, "--input", "calls=3"],
             ["run", noroom, "--register", "floors=3"],
+            ["run", "routines/take.c", "--input", "(words copied)=3"],
+            ["build", "routines/take.c", "--input", "(words copied)=3"],
+            ["run", "routines/take.c", "--register", "(words copied)=3"],
             ["run", beyond, "--register", "calls=1", "calls=2"],
             ["run", beyond, "--register", "calls=1,two"],
             ["run", beyond, "--register", "calls=@routines/nothing"],
@@ -166,6 +222,10 @@ class Use(unittest.TestCase):
                 status, output, error = mavis(*arguments)
                 self.assertEqual((status, output, error.count("\n")), (64, "", 1), error)
                 self.assertTrue(error.startswith("mavis"), error)
+
+    def test_what_can_be_named(self):
+        error = mavis("run", "routines/take.c", "--input", "snap=3")[2]
+        self.assertEqual(error, "mavis: --input: there is no variable snap; there are: live, snapshot, stop\n")
 
     def test_help(self):
         for arguments in (["--help"], ["run", "--help"], ["build", "--help"], ["check", "--help"]):

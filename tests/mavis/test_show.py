@@ -69,6 +69,34 @@ class Show(unittest.TestCase):
             with self.subTest(what):
                 self.assertIn(UNSAYABLE, self.shown(text))
 
+    def test_copies(self):
+        """As an assignment of a struct, where that gives the same table; else in a comment. The records are of one int, the variables two
+        pointers to them and ints."""
+        head, nodes = "16 {} 0 0 {}  1 1 1 0 1 1 65536 {} 2 2 {}", "1 0 0 6 {} 0 1 1 0 6 {} 0"
+        one = f"{head.format(3, 0, 3, 0)} 6 1 2 0 {nodes.format(1, 3)} 11 2 4 1 0 5"
+        self.assertIn("\n    *v0 = *v1;\n", self.shown(one))
+        self.assertNotIn("v2;", self.shown(one))
+        for what, text in {
+            "a variable that is not the last": f"{head.format(4, '0 0', 4, '0 0')} 6 1 2 0 {nodes.format(1, 3)} 11 2 4 1 0 5",
+            "one that another command names": f"{head.format(3, 0, 3, 0)} 8 1 2 0 {nodes.format(1, 3)} 11 2 4 1 2 0 4 1 0 2 0 5 6 7",
+            "a copy within a sum": f"{head.format(3, 0, 3, 0)} 8 1 2 0 {nodes.format(1, 3)} 11 2 4 4 1 0 5 5 6 1 0 7",
+            "a copy as an operand beside one as a value": f"{head.format(3, 0, 3, 0)} 14 1 2 0 {nodes.format(1, 3)} 11 2 4 "
+            f"1 2 0 {nodes.format(7, 9)} 11 8 10 10 11 0 8 12 0 2 0 5 6 13",
+        }.items():
+            with self.subTest(what):
+                shown = self.shown(text)
+                self.assertRegex(shown, rf"/\* {UNSAYABLE} v2 = .*copy\(v0, v1\).*; \*/")
+                self.assertIn("int v2; /* variable 2", shown)
+                self.assertNotIn("*v0 = *v1", shown)
+
+    def test_a_copy_in_place_of_the_variable_of_copies(self):
+        """Two copies: one as C has it, one into another variable."""
+        nodes = "1 3 0 1 0 0 6 1 0 1 1 0 6 3 0 11 2 4 1 2 0 1 0 0 6 7 0 1 1 0 6 9 0 11 8 10"
+        shown = self.shown(f"16 4 0 0 0 0  1 1 1 0 1 1 65536 4 2 2 0 0 12 {nodes} 2 0 5 6 11")
+        self.assertIn("\n    *v0 = *v1;\n", shown)
+        self.assertIn(f"/* {UNSAYABLE} v2 = copy(v0, v1); */", shown)
+        self.assertIn("/* variable 3: 0, word 4, which the struct assignments make */", shown)
+
     def test_a_refused_table(self):
         status, output, error = mavis("show", "routines/nocast.txt")
         self.assertEqual((status, error), (3, ""))

@@ -12,9 +12,8 @@ from table_page import shared_declarations, sharing_calls, sharing_rows, type_na
 from workbench import text
 from workbench.commands import STATUS
 from workbench.machine import Call
-from workbench.table import ADDRESS, CAST, DEREF, FIELD, FIRST_POINTER, INT, KIND_NAMES, MALLOC, OPERANDS, PLACE, RECORD, SECTIONS, SUM
-from workbench.table import VALUE, VARIABLE
-from workbench.table import VOID_POINTER, WORD, Spot, Table, spot
+from workbench.table import ADDRESS, CAST, COPY, DEREF, FIELD, FIRST_POINTER, INT, KIND_NAMES, MALLOC, OPERANDS, PLACE, RECORD, SECTIONS
+from workbench.table import SUM, VALUE, VARIABLE, VOID_POINTER, WORD, Spot, Table, spot
 
 # Every table of the page, by its heading and its columns, with its number of rows. Where rows are examples, each of them is run: a row that
 # is no longer read, or a new one, fails here.
@@ -25,17 +24,17 @@ ROWS = {
     ("The six sections", "Section | Entries | At most | Words of an entry"): 6,
     ("The six sections", "Section | Place of its count | Place of the first word of entry i"): 6,
     ("Types and records", "Word | As a type | As a target"): 4,
-    ("Nodes", "Kind | Name | a | b | Type"): 10,
-    ("Nodes", "Kind | At run time"): 10,
-    ("An example of each kind", "Kind | C | Nodes | Commands | Answer"): 15,
-    ("Bounds", "Kind | Passes when | Place | Bounds of the place"): 2,
+    ("Nodes", "Kind | Name | a | b | Type"): 11,
+    ("Nodes", "Kind | At run time"): 11,
+    ("An example of each kind", "Kind | C | Nodes | Commands | Answer"): 16,
+    ("Bounds", "Kind | Passes when | Place | Bounds of the place"): 3,
     ("Bounds", "Value | Its bounds"): 10,
     ("Examples of evaluation, bounds and allocation", "C | Nodes | Commands | Answer"): 7,
     ("Endings", "Ending | When | Answered | The three lists"): 4,
     ("Why a run aborted", "Number | Meaning"): 6,
-    ("Why a run aborted", "Commands | node, place, words, base, end, reason, first word"): 3,
+    ("Why a run aborted", "Commands | node, place, words, base, end, reason, first word"): 4,
     ("Refusals", "No. | Condition | Place | Table | Answer"): 23,
-    ("Refusals", "Kind | Not allowed"): 5,
+    ("Refusals", "Kind | Not allowed"): 6,
     ("Refusals", "No. | Condition | Place | Text | Answer"): 3,
     ("Refusals", "No. | Condition | Place | List | Answer"): 9,
     ("Order", "Table | Faults | Answer"): 8,
@@ -205,7 +204,7 @@ class Kinds(unittest.TestCase):
                 self.assertEqual(kind in (VARIABLE, DEREF, FIELD), name.endswith("(place)"))
                 nodes = [letter for letter, cell in (("a", a), ("b", b)) if re.match("(value|place)", cell)]
                 self.assertEqual("".join(name for name, role in zip("ab", OPERANDS[kind]) if role in (VALUE, PLACE)), "".join(nodes))
-                self.assertEqual(kind not in (FIELD, SUM, CAST), b == "0")
+                self.assertEqual(kind not in (FIELD, SUM, CAST, COPY), b == "0")
 
     def test_run_time(self):
         rows = PAGE.rows("Nodes", "Kind | At run time")
@@ -213,7 +212,7 @@ class Kinds(unittest.TestCase):
 
     def test_kinds_that_check(self):
         rows = PAGE.rows("Bounds", "Kind | Passes when | Place | Bounds of the place")
-        self.assertEqual([DEREF, FIELD], [count(kind) for kind, *_ in rows])
+        self.assertEqual([DEREF, FIELD, COPY], [count(kind) for kind, *_ in rows])
 
     def test_steps_by_records(self):
         """A record back, and a number of records of four words that is a multiple of 2^32 words."""
@@ -239,17 +238,18 @@ class Nodes(unittest.TestCase):
 
     def test_runs(self):
         rows, calls = list(sharing_rows()), list(sharing_calls())
-        self.assertEqual((15 + 7, 15 + 7), (len(rows), len(calls)))
+        self.assertEqual((16 + 7, 16 + 7), (len(rows), len(calls)))
         for (_, c, _, _, wanted), answer in zip(rows, MACHINE.explain(calls)):
             with self.subTest(c):
                 self.assertEqual(wanted, [first_line(answer), *not_clear(answer)])
 
     def test_c(self):
-        """The C of each, with the page's declarations, is translated into the page's nodes and commands."""
+        """The C of each, with the page's declarations, is translated into the page's nodes and commands. A copy has the last variable, n, in
+        place of the one that C has no name for."""
         _, c, _ = shared_declarations()
-        for _, (commands, *others), nodes, pairs, _ in sharing_rows():
+        for kind, (commands, *others), nodes, pairs, _ in sharing_rows():
             with self.subTest(commands):
-                table = routine_of(c, commands).table
+                table = routine_of(c.replace(" int n;", "") if kind == COPY else c, commands).table
                 self.assertEqual(nodes, [" ".join(map(str, node)) for node in table.nodes])
                 self.assertEqual(pairs, [" ".join(map(str, pair)) for pair in table.commands])
                 self.assertEqual([], others)

@@ -10,7 +10,7 @@ from table_page import MACHINE, NO_COMMANDS, PAGE, call_of_text, first_line
 from workbench import text
 from workbench.c.declarations import FIELD_WORDS
 from workbench.machine import LONGEST, Call
-from workbench.table import ADDRESS, DEREF, FIELD, INT, KIND_NAMES, MALLOC, SECTIONS, SUM, VOID_POINTER, WORD, Table, spot
+from workbench.table import ADDRESS, COPY, DEREF, FIELD, INT, KIND_NAMES, MALLOC, SECTIONS, SUM, VOID_POINTER, WORD, Table, spot
 
 # What the page calls the place of a refusal, and the word of the table that this is.
 PLACES = {
@@ -132,7 +132,7 @@ class Told(unittest.TestCase):
 
     def test_kinds_with_types(self):
         kinds = [int(kind) for kind, _ in PAGE.rows("Refusals", "Kind | Not allowed")]
-        self.assertEqual([DEREF, FIELD, SUM, ADDRESS, MALLOC], kinds)
+        self.assertEqual([DEREF, FIELD, SUM, ADDRESS, MALLOC, COPY], kinds)
 
 
 class BenchTexts(unittest.TestCase):

@@ -105,14 +105,16 @@ class Why(unittest.TestCase):
         if cell.startswith("`routines/"):
             name, statement = codes(cell)
             self.assertIn(statement, (ROOT / f"{name}.c").read_text(encoding="utf-8"))
-            return call_of_text((ROOT / f"{name}.txt").read_text(encoding="utf-8"))
+            listed = ROOT / f"{name}.registers"
+            registers = numbers(listed.read_text(encoding="utf-8")) if listed.is_file() else [0]
+            return dataclasses.replace(call_of_text((ROOT / f"{name}.txt").read_text(encoding="utf-8")), registers=registers)
         command, type = codes(cell)
         return call_of(routine_of(f"{type}q;", command))
 
     def test_examples(self):
         rows = PAGE.rows("Why a run aborted", "Commands | node, place, words, base, end, reason, first word")
         answers = MACHINE.explain([self.call(cell) for cell, _ in rows])
-        self.assertEqual(3, len(answers))
+        self.assertEqual(4, len(answers))
         for (cell, told), answer in zip(rows, answers):
             with self.subTest(cell):
                 form = r"(\d+), (\d+), (\d+), (\d+), (\d+), reason (\d+), first word (\d+)(?:: (.*))?"
@@ -124,7 +126,8 @@ class Why(unittest.TestCase):
     def test_numbers(self):
         """The seven numbers are those of the machine's answer, in its order, and so are the reasons."""
         cells = dict(PAGE.rows("Why a run aborted", "Number | Meaning"))
-        self.assertEqual([each.name for each in dataclasses.fields(Cause)], [name.split()[0] for name in ", ".join(cells).split(", ")])
+        told = [each.name for each in dataclasses.fields(Cause) if each.default is dataclasses.MISSING]
+        self.assertEqual(told, [name.split()[0] for name in ", ".join(cells).split(", ")])
         reasons = re.findall(r"(\d) (no bounds|before the base|past the end)", cells["reason"])
         self.assertEqual(
             {"no bounds": NO_BOUNDS, "before the base": BEFORE_BASE, "past the end": PAST_END}, {b: int(a) for a, b in reasons}

@@ -9,6 +9,8 @@ RUNS = {
     "twelve": ("routines/twelve.c", "--register", CARS),
     "list": ("routines/list.c",),
     "noroom": ("routines/noroom.c", "--memory", "8", "--input", "floors=3"),
+    "take": ("routines/take.c", "--register", "live=2,7,12,0"),
+    "takeshort": ("routines/takeshort.c", "--register", "live=2,7,12,0"),
 }
 REFUSED = ("routines/nocast.txt",)
 
@@ -35,10 +37,19 @@ def most_blocks(folder):
     return (written(folder, "blocks.c", lines),)
 
 
+def most_copies(folder):
+    """A register of 2,000 words that is copied as a whole as often as 512 nodes allow, one word of it changed each time."""
+    lines = ["struct calls { int floors[1999]; int last; };", "struct calls *live, *snapshot;", "void routine(void) {"]
+    lines += ["    snapshot = malloc(sizeof(struct calls));"]
+    lines += [f"    *snapshot = *live;\n    live->last = {number};" for number in range(50)]
+    words = ",".join(str(1 + number * 7919) for number in range(2000))
+    return written(folder, "copies.c", lines), "--memory", "5000", "--register", f"live={words}"
+
+
 def written(folder, name, lines):
     path = folder / name
     path.write_text("\n".join([*lines, "}", ""]))
     return str(path.relative_to(ROOT))
 
 
-LARGE = {"commands": most_commands, "follows": most_follows, "blocks": most_blocks}
+LARGE = {"commands": most_commands, "follows": most_follows, "blocks": most_blocks, "copies": most_copies}

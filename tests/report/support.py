@@ -12,6 +12,7 @@ PICTURES = ROOT / "target/report"
 sys.path.insert(0, str(ROOT))
 sys.setrecursionlimit(10000)
 
+from workbench.names import COPIED  # noqa: E402
 from workbench.translate import translate  # noqa: E402
 
 PICTURES.mkdir(parents=True, exist_ok=True)
@@ -34,15 +35,19 @@ def made_page(name, options):
 
 
 def run_cut(options, count):
-    """What `mavis run` prints of the routine in C cut after its first statements. Lines stay where they are."""
+    """What `mavis run` prints of the routine in C cut after its first statements. Lines stay where they are, and so do words: where no struct
+    assignment is left, a variable of another name stands for theirs."""
     path = ROOT / options[0]
     text = path.read_text()
-    for span in translate(path.name, text).command_spans[count:]:
+    whole = translate(path.name, text)
+    for span in whole.command_spans[count:]:
         end = text.index(";", span.end) + 1
         text = text[: span.start] + re.sub(r"[^\n]", " ", text[span.start : end]) + text[end:]
+    if translate(path.name, text).names.variables != whole.names.variables:
+        text += "int words_copied;\n"
     cut = PICTURES / f"cut-{count}-{path.name}"
     cut.write_text(text)
-    return mavis("run", str(cut), *options[1:])[1]
+    return mavis("run", str(cut), *options[1:])[1].replace("words_copied", COPIED)
 
 
 def memory_of(output):

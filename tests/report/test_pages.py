@@ -21,7 +21,7 @@ def tearDownModule():
 
 
 class Pages(unittest.TestCase):
-    """The steps of four runs, moved through by slider, keys and buttons."""
+    """The steps of the runs, moved through by slider, keys and buttons."""
 
     def setUp(self):
         BROWSER.view()
@@ -99,6 +99,9 @@ class Pages(unittest.TestCase):
             "twelve": "Done: all 25 commands were carried out; total is 41.",
             "list": "Done: all 15 commands were carried out; load is 6.",
             "noroom": "No room in line 10: malloc(floors) asked for 3 words, and 1 was left.",
+            "take": "Done: all 6 commands were carried out; stop is 7.",
+            "takeshort": "Aborted in line 13: *snapshot wanted 4 words at 8 (block 8), 1 word past the end of block 8; "
+            "nothing outside its bounds was touched.",
         }
         for name, headline in headlines.items():
             with self.subTest(name):
@@ -132,6 +135,20 @@ class Pages(unittest.TestCase):
         self.assertEqual((page.within(), page.bounds), ([3, 4, 5, 6], "Followed p, bounds [3, 7): block 3."))
         self.assertEqual((self.go(3).tagged("written"), Reading(BROWSER).within()), ([3], [3, 4]))
         self.assertEqual(self.go(0).free, "Free: words 3 to 4095 (4093 of 4096).")
+
+    def test_struct_assignments(self):
+        """One that copies, and one that fails at the struct that it would write."""
+        self.opened("take")
+        page = self.go(2)
+        self.assertEqual((page.tagged("read"), page.tagged("written")), ([1, 2, *range(5, 9)], [4, *range(9, 13)]))
+        wrote = "Wrote words 9 to 12 (block 9) and word 4 (variable (words copied))."
+        self.assertIn(f"Read word 2 (variable snapshot), word 1 (variable live) and words 5 to 8 (register live). {wrote}", page.says)
+        self.assertEqual(page.within(), [*range(5, 13)])
+        self.assertEqual(page.bounds, "Followed snapshot, bounds [9, 13): block 9. Followed live, bounds [5, 9): register live.")
+        self.opened("takeshort")
+        page = Reading(BROWSER)
+        self.assertEqual((page.failed, page.tagged("wanted"), page.tagged("written")), ("*snapshot", [8, 9, 10], []))
+        self.assertEqual(page.bounds, "Not followed: snapshot, bounds [8, 11): block 8.")
 
     def test_keys_buttons_and_addresses(self):
         self.opened("list", "#step=4")

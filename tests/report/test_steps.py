@@ -5,12 +5,17 @@ import unittest
 from routines import RUNS
 from support import ROOT, translate
 
-from workbench.report.cuts import prefix, probe
+from workbench.cuts import prefix, probe, with_source
+from workbench.endings import Ending
 from workbench.machine import Call, Machine
-from workbench.report.picture import Picture
 from workbench.regions import Regions
-from workbench.report.steps import steps_of
-from workbench.table import DEREF, FIELD
+from workbench.report.picture import Picture
+from workbench.report.steps import FOLLOWS, steps_of
+from workbench.report.story import Story
+from workbench.routine import routine_of_text
+from workbench.source import Source
+from workbench.table import COPY
+from workbench.text import read_text
 
 MACHINE = Machine()
 DECLARATIONS = "struct calls { int people; struct calls *next; int floors[3]; };\nstruct calls *p, *s; int *q, **r; int n, m;\n"
@@ -63,6 +68,39 @@ class Steps(unittest.TestCase):
         answer, steps = stepped_statements("*(int *)malloc(1) = (int)malloc(5) + *q;")
         self.assertEqual((answer.ending, answer.unused, steps[-1].unused, steps[-1].written), ("abort", 13, 13, []))
 
+    def test_copies(self):
+        """The words that a struct assignment reads and writes, also where they overlap, beside those of its pointers."""
+        statements = "p = malloc(11); p->people = 4; p->next = p + 1; *p->next = *p; s = (struct calls *)((int *)p + 1); *s = p[0];"
+        answer, steps = stepped_statements(statements)
+        self.assertEqual(answer.ending, "done")
+        last, first = steps[-1], steps[4]
+        self.assertEqual((first.read, first.written), ([1, 9, 1, *range(8, 13)], [*range(13, 18), 7]))
+        self.assertEqual((last.read, last.written), ([2, 1, *range(8, 13)], [*range(9, 14), 7]))
+        told = [(one.operand, one.word, one.base, one.end) for one in first.followed]
+        self.assertEqual(told, [(0, 9, 8, 19), (0, 13, 8, 19), (1, 8, 8, 19)])
+        self.assertEqual((first.changed[7], first.changed[14]), ((5, 0, 0), (13, 8, 19)))
+        self.assertEqual((last.changed[9], last.changed[10]), ((4, 0, 0), (13, 8, 19)))
+
+    def test_failing_copies_write_nothing(self):
+        for statement in ("*p = p[2];", "p[2] = *p;"):
+            answer, steps = stepped_statements(f"p = malloc(14); {statement}")
+            self.assertEqual((answer.ending, steps[-1].read, steps[-1].written), ("abort", [1, 1], []))
+            self.assertEqual((steps[-1].followed, steps[-1].changed), ([], {}))
+
+    def test_a_copy_before_a_failure_has_written(self):
+        """Of a table only: C has no copy within an expression. The copy is made, then a follow fails, and the place is not assigned."""
+        nodes = "1 0 0 4 6 0 10 1 0 8 2 2 1 2 0 1 0 0 6 5 0 4 1 0 5 6 7 1 0 0 6 9 0 11 8 10 1 1 0 6 12 0 2 13 0 6 14 0 5 11 15"
+        routine = routine_of_text(read_text(Source("copy.txt", f"16 3 0 0 0  1 1 1 0 3 2 65536 0 3 2 3 0 17 {nodes} 2 0 3 4 16")))
+        self.assertEqual(routine.unparser.command(1), "v2 = copy(v0 + 1, v0) + *v1;")
+        call = Call(routine.table.words(), 16, [0, 0, 0])
+        (answer,) = MACHINE.explain([call])
+        step = steps_of(routine, MACHINE, call, answer)[-1]
+        self.assertEqual((answer.ending, step.read, step.written), ("abort", [1, 1, 4, 5, 6, 2], [7, 8, 9]))
+        regions = Regions(routine, MACHINE, call, answer)
+        said = Story(routine, call, answer, regions, Ending(routine, MACHINE, call, answer, regions)).step(step, regions, [])
+        self.assertIn(" Wrote words 7 to 9 (block 4, [1].f0). ", said)
+        self.assertTrue(said.endswith("Nothing more was assigned."), said)
+
     def test_records_of_any_size(self):
         for size in (1, 2, 3, 6, 12, 4096):
             text = f"struct s {{ int first[{size}]; int last; }};\nstruct s *p;\nvoid routine(void) {{ p = malloc(sizeof(struct s)); p->last = 7; }}"
@@ -110,6 +148,15 @@ class Pictures(unittest.TestCase):
         self.assertEqual(picture.rows(), expected)
         self.assertEqual(picture.rows({30, 31})[1][3:6], [[24, 29, "clear"], [30, 30], [31, 31]])
 
+    def test_large_copies_are_folded(self):
+        """A register of 70 words and a block that gets them by a copy, of which one word is written by itself."""
+        text = "struct s { int a[70]; };\nstruct s *p, *q;\nvoid routine(void) { q = malloc(70); *q = *p; q->a[9] = 5; *q = *p; }"
+        register, block = self.pictured(text, registers=[1, 0, 70, *range(1, 71)]).rows()[1:]
+        self.assertEqual(register, [[4, 4], [5, 72, "copied"], [73, 73]])
+        self.assertEqual(block, [[74, 74], [75, 82, "copied"], [83, 83], [84, 142, "copied"], [143, 143]])
+        picture = self.pictured(text.replace("q->a[9] = 5; *q = *p;", ""), registers=[1, 0, 70, *[0] * 30, 7, *[0] * 39])
+        self.assertEqual(picture.rows()[2], [[74, 74], [75, 103, "copied"], [104, 104], [105, 142, "copied"], [143, 143]])
+
     def test_registers_are_shown_unless_they_are_long(self):
         text = "int *p;\nvoid routine(void) { p[1] = 7; }"
         for length in (64, 65):
@@ -138,9 +185,11 @@ class Cuts(unittest.TestCase):
         for path in sorted((ROOT / "routines").glob("*.c")):
             table = translate(path.name, path.read_text()).table
             for node, (kind, _, _) in enumerate(table.nodes):
-                if kind in (DEREF, FIELD):
-                    cut, _ = probe(table, node, len(table.commands))
+                for operand in FOLLOWS.get(kind, ()):
+                    cut, _ = probe(table, node, len(table.commands), operand)
                     self.assertIsNone(MACHINE.check(cut.words()), (path.name, node))
+                if kind == COPY:
+                    self.assertIsNone(MACHINE.check(with_source(table, node, 7).words()), (path.name, node))
 
 
 if __name__ == "__main__":

@@ -6,7 +6,7 @@ C does not say what such a statement does, so that the native program goes witho
 import model
 from expressions import FAR, Expressions
 from model import INT, VOID, Address, Bounds, Object, Pointer, Record, Undefined, Value
-from terms import POSTFIX
+from terms import POSTFIX, UNARY
 
 
 class Endless(Object):
@@ -25,6 +25,8 @@ class Astray(Expressions):
     def astray(self):
         """A statement whose place, or whose value, lies outside the bounds of the pointer followed."""
         self.blocks_before = -1  # nothing is allocated: the native program would not have that block
+        if self.records and self.chance(0.2):
+            return self.astray_copy(self.random.choice(self.records))
         place = self.sooner_or_later(self.outside, self.pick(0, 1, 2))
         way = self.random.random()
         if way < 0.2 and place.of.type != Pointer(VOID):
@@ -46,7 +48,7 @@ class Astray(Expressions):
         target = pointer.of.type.target
         if target == VOID:
             raise Undefined
-        free = Value(pointer.of.type, Address(ENDLESS, MIDDLE), Bounds(ENDLESS, 0, len(ENDLESS.values)))
+        free = self.free(pointer)
         by = self.step_out(pointer.of)
         number = lambda: self.number(by, 1)
         if not isinstance(target, Record):
@@ -56,6 +58,24 @@ class Astray(Expressions):
         self.refuse_inside(pointer.of, by * target.size + field.offset, field.words)
         place = self.member(pointer._replace(of=free), number, by, field)
         return place if field.count is None else self.star(self.decay(place))
+
+    def free(self, pointer):
+        """A pointer of the same type that can go anywhere."""
+        return Value(pointer.of.type, Address(ENDLESS, MIDDLE), Bounds(ENDLESS, 0, len(ENDLESS.values)))
+
+    def astray_copy(self, record):
+        """An assignment of a whole record, of which one side or both lie outside the bounds."""
+        makers = self.pick([self.outside_whole, self.whole], [self.whole, self.outside_whole], [self.outside_whole, self.outside_whole])
+        left, right = (self.sooner_or_later(make, record, self.pick(0, 1)) for make in makers)
+        self.routine.copied = self.routine.copied or 0
+        self.routine.astray_side = makers.index(self.outside_whole)
+        return f"{self.at(left, UNARY)} = {self.at(right, UNARY)};"
+
+    def outside_whole(self, record, depth):
+        pointer = self.to_record(self.loose_pointer() if self.chance(0.2) else self.pointer(depth), record)
+        by = self.pick(0, 0, self.random.randint(-3, 3))
+        self.refuse_inside(pointer.of, by * record.size, record.size)
+        return self.element(pointer._replace(of=self.free(pointer)), lambda: self.number(by, 1), by)
 
     def loose_pointer(self):
         """A variable without bounds: a null pointer, or an int made into a pointer. An int stored over a pointer leaves the

@@ -213,6 +213,26 @@ class Expressions(Writer):
             and offset + step * record.size + field.offset + field.words <= bounds.high
         ]
 
+    # Whole records
+
+    def whole(self, record, depth):
+        """A record as a whole, some steps from a pointer; where the pointer has another type, the type is changed by a cast."""
+        pointer = self.pointer_of(Pointer(record), depth, False) if self.chance(0.4) else self.to_record(self.pointer(depth), record)
+        steps = self.wholes_within(pointer.of) if is_live(pointer.of) else []
+        if not steps:
+            raise Undefined
+        by = 0 if 0 in steps and self.chance(0.4) else self.random.choice(steps)
+        return self.element(pointer, lambda: self.number(by, 1), by)
+
+    def to_record(self, pointer, record):
+        return pointer if pointer.of.type == Pointer(record) else self.cast(pointer, Pointer(record))
+
+    def wholes_within(self, pointer):
+        """Steps along records after which a whole one lies in the bounds."""
+        size, offset, bounds = pointer.type.target.size, pointer.word.offset, pointer.bounds
+        starts = [(step, offset + step * size) for step in range(-FAR, FAR + 1)]
+        return [step for step, start in starts if bounds.low <= start and start + size <= bounds.high]
+
     # Pointers
 
     def pointer(self, depth):

@@ -3,11 +3,12 @@
 from model import UNKNOWN, WRAP, Address
 
 
-def layout(routine, numbers, variables):
-    """The machine's address of each object, and the first word that is not in use: variables, registers, blocks."""
+def layout(routine, numbers):
+    """The machine's address of each object, and the first word that is not in use: variables, with one for assignments of whole records, then
+    registers and blocks."""
     memory = routine.memory
     starts = {id(variable): 1 + numbers[variable] for variable in memory.variables}
-    unused = 1 + variables
+    unused = 1 + len(memory.variables) + (routine.copied is not None)
     for object in memory.registers + memory.blocks:
         starts[id(object)] = unused
         unused += len(object.values)
@@ -47,6 +48,9 @@ def against_machine(routine, starts, unused, answer):
     if answer.unused != unused:
         return [f"the machine has words up to {answer.unused}, the model up to {unused}"]
     differences = []
+    copied = answer.words[1 + len(routine.memory.variables)] if routine.copied is not None else None
+    if copied not in (None, (routine.copied, 0, 0)):
+        differences.append(f"the words copied: the machine has {copied}, the model {routine.copied}")
     for place, object in enumerate(routine.memory.objects()):
         for offset, (value, bounds) in enumerate(zip(object.values, object.bounds)):
             has = answer.words[starts[id(object)] + offset]

@@ -74,7 +74,7 @@ class Place(NamedTuple):
 
 
 class Whole(NamedTuple):
-    """A record as a whole: C can only take a field of it, its address and its size."""
+    """A record as a whole: C can take a field of it, its address and its size, and assign it to another."""
 
     pointer: Value
 
@@ -157,6 +157,20 @@ def assign(place, value):
     place.object.values[place.offset] = value.word
     if place.type != INT:
         place.object.bounds[place.offset] = value.bounds
+
+
+def overlap(to, source):
+    """Whether two records have some words in common, but not all: C leaves their assignment undefined."""
+    size, apart = to.type.target.size, to.word.offset - source.word.offset
+    return to.word.object is source.word.object and 0 < abs(apart) < size
+
+
+def copy(to, source):
+    """The assignment of a whole record: its words go as they were before, with their bounds."""
+    size = to.type.target.size
+    first, start = wanted(to, 0, size), wanted(source, 0, size)
+    for words, others in ((to.word.object.values, source.word.object.values), (to.word.object.bounds, source.word.object.bounds)):
+        words[first : first + size] = others[start : start + size]
 
 
 class Memory:

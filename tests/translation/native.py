@@ -13,6 +13,7 @@ HEAD = """
 #include <stdint.h>
 #include <stdio.h>
 #include <stdlib.h>
+#include <string.h>
 
 static unsigned *native_blocks[256], native_lengths[256], native_count;
 

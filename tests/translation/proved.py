@@ -48,5 +48,5 @@ class Workbench:
         registers = [len(routine.registers)]
         for variable, words in routine.registers:
             registers += [numbers[variable], len(words), *words]
-        starts, unused = judge.layout(routine, numbers, len(order))
+        starts, unused = judge.layout(routine, numbers)
         return (starts, unused), self.call_of(table=table, memory=unused + SPARE, inputs=inputs, registers=registers)

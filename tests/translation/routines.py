@@ -28,6 +28,8 @@ class Routine:
         self.body = []  # pairs: a statement, and the same with a zero where a variable has no initialiser
         self.commands = 0  # assignments in it
         self.astray = None  # a last statement at which the machine must abort
+        self.astray_side = None  # where that statement assigns a whole record: 0 if its left side lies outside, 1 if the right one alone does
+        self.copied = None  # words that the last assignment of a whole record copied; None where the text has no such assignment
         self.memory = model.Memory()
         self.inputs = {}  # variable to number
         self.registers = []  # pairs: variable, words
@@ -66,19 +68,23 @@ class Maker(Declarations, Astray):
             self.routine.body.append((";", ";"))
         for _ in range(5):
             self.blocks_before = len(self.memory.blocks)
-            makers = [self.assignment, self.revival, self.compound, self.step, self.declaration]
-            line = self.attempt(self.random.choices(makers, [46, 22, 13, 11, 8])[0])
+            makers = [self.assignment, self.revival, self.compound, self.step, self.declaration, self.copy]
+            line = self.attempt(self.random.choices(makers, [46, 22, 13, 11, 8, 12])[0])
             if line is not None:
                 self.routine.body.append(line if isinstance(line, tuple) else (line, line))
                 return
 
     def done(self, place, value, nodes):
         """The assignment itself; nothing raises Undefined after it."""
+        self.count(nodes)
+        model.assign(place, value)
+
+    def count(self, nodes):
+        """One command more, of so many nodes."""
         if self.nodes + nodes > MOST_NODES:
             raise Undefined
         self.nodes += nodes
         self.routine.commands += 1
-        model.assign(place, value)
 
     def value_for(self, type, depth):
         if type == INT:
@@ -109,6 +115,19 @@ class Maker(Declarations, Astray):
         if not dead:
             raise Undefined
         return self.name(self.random.choice(dead))
+
+    def copy(self):
+        """An assignment of a whole record. Where two overlap, the native program moves the words."""
+        if not self.records:
+            raise Undefined
+        record = self.random.choice(self.records)
+        left, right = (self.sooner_or_later(self.whole, record, self.pick(0, 1, 1, 2)) for _ in range(2))
+        self.count(left.nodes + right.nodes + 2)
+        overlap = model.overlap(left.of.pointer, right.of.pointer)
+        model.copy(left.of.pointer, right.of.pointer)
+        self.routine.copied = record.size
+        text = f"{self.at(left, UNARY)} = {self.at(right, UNARY)};"
+        return (text, f"memmove(&({left.text}), &({right.text}), {4 * record.size});") if overlap else text
 
     # Changes of a place
 

@@ -152,6 +152,7 @@ class Declarations:
         if kind(node) != "Decl" or node.name is None:
             raise Faulty(self.spans.here(), "this is not in the fragment: a struct has fields with names")
         type, span = self.declared(node)
+        self.scope.refuse_macro(node.name, span)
         if isinstance(type, Record):
             raise Faulty(span, "a struct within a struct is not in the fragment", "make it a pointer, or write out its fields")
         self.refuse_void(type, span)

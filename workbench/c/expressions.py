@@ -4,7 +4,7 @@ from dataclasses import dataclass
 
 from ..errors import Faulty
 from ..source import Span
-from ..table import ADDRESS, CAST, CONSTANT, DEREF, FIELD, MALLOC, READ, SIZE, SUM, VARIABLE, WORD
+from ..table import ADDRESS, CAST, CONSTANT, COPY, DEREF, FIELD, MALLOC, READ, SIZE, SUM, VARIABLE, WORD
 from ..wording import article
 from .declarations import kind
 from .numbers import OPERATORS, number_of, written
@@ -24,7 +24,7 @@ NO_EXPRESSIONS = {
 @dataclass
 class Node:
     """A node of the table before it has a number: its operands are nodes, C types or words. A kind of None is a whole struct, which is no node:
-    it is reached by the pointer `a`, and only its fields and its address can be used."""
+    it is reached by the pointer `a`, and its fields and its address can be used. A copy has two such structs as its operands."""
 
     kind: int
     a: object
@@ -134,7 +134,8 @@ class Expressions:
 
     def read(self, place):
         if place.kind is None:
-            raise Faulty(place.span, "a whole struct as a value is not in the fragment", "use its fields one by one")
+            message = "a whole struct as a value is not in the fragment, but where it is assigned to a struct"
+            raise Faulty(place.span, message, "use its fields one by one")
         if isinstance(place.type, Array):
             return Node(ADDRESS, place, 0, Pointer(place.type.element), place.span)
         return Node(READ, place, 0, place.type, place.span)
@@ -202,8 +203,37 @@ class Expressions:
 
     def type_of(self, tree):
         """The type of an expression that is not evaluated."""
+        return self.place(tree).type if self.is_place(tree) else self.value(tree).type
+
+    def is_place(self, tree):
+        """Whether an expression is written as a place is."""
         is_place = kind(tree) in ("ID", "ArrayRef", "StructRef") or (kind(tree) == "UnaryOp" and tree.op == "*")
-        return self.place(tree).type if is_place and getattr(tree, "name", "") != "NULL" else self.value(tree).type
+        return is_place and getattr(tree, "name", "") != "NULL"
+
+    # Whole structs
+
+    def copied(self, struct, tree, span):
+        """A struct that gets all words of another one, which an expression stands for. The value is their number."""
+        self.members(struct.type, struct.span)
+        source = self.struct_or_value(tree)
+        if source.type is not struct.type:
+            text, wanted = source.span.text, article(str(struct.type))
+            hint = self.struct_hint(source.type, struct.type)
+            raise Faulty(source.span, f"`{text}` is {article(str(source.type))}, and {wanted} is wanted", hint)
+        return Node(COPY, struct, source, INT, span)
+
+    def struct_or_value(self, tree):
+        """What an expression stands for at the right of a struct."""
+        place = self.place(tree) if self.is_place(tree) else None
+        if place is None:
+            return self.value(tree)
+        return place if place.kind is None else self.read(place)
+
+    def struct_hint(self, type, wanted):
+        """How a struct is reached from a value of another type."""
+        if type == Pointer(wanted):
+            return "follow it: *.."
+        return f"cast its pointer: *({wanted} *).." if isinstance(type, Record) else None
 
     def value_BinaryOp(self, tree):
         span = self.spans.of(tree)

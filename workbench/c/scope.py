@@ -6,7 +6,8 @@ from ..errors import Faulty
 from ..source import Span
 from .types import Record
 
-RESERVED = ("malloc", "NULL")  # names that the fragment has by itself
+MACRO = "NULL"  # which C replaces wherever it stands, as a field or after struct too
+RESERVED = ("malloc", MACRO)  # names that the fragment has by itself
 
 
 @dataclass(frozen=True)
@@ -25,6 +26,7 @@ class Scope:
 
     def record(self, tag, span):
         """The struct of a tag, which may be defined further on."""
+        self.refuse_macro(tag, span)
         if tag not in self.tags:
             self.tags[tag] = Record(tag, span)
         return self.tags[tag]
@@ -56,6 +58,10 @@ class Scope:
                 span, f"{name} is declared twice, first in line {self.names[name].line}", "a name stands for one thing in the whole text"
             )
         self.names[name] = span
+
+    def refuse_macro(self, name, span):
+        if name == MACRO:
+            raise Faulty(span, f"{name} has its own meaning in C", "choose another name")
 
     def variable(self, name, span):
         if name not in self.variables:

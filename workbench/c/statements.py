@@ -3,6 +3,7 @@
 from dataclasses import dataclass
 
 from ..errors import Faulty
+from ..names import COPIED
 from ..source import Span
 from ..table import CONSTANT, SUM, VARIABLE, WORD
 from .declarations import Declarations, kind
@@ -48,7 +49,7 @@ class Reader:
         self.scope, self.spans = Scope(), Spans(tokens)
         self.declarations = Declarations(self.scope, self.spans, lambda tree: self.expressions.constant(tree))
         self.expressions = Expressions(self.scope, self.spans, self.declarations)
-        self.commands, self.function = [], None
+        self.commands, self.copies, self.function = [], [], None
 
     def read(self):
         for item in self.items:
@@ -57,6 +58,7 @@ class Reader:
             end = len(self.source.text.rstrip())
             raise Faulty(Span(self.source, end, end + 1), "there is no routine: a function void NAME(..) is wanted")
         self.scope.refuse_undefined()
+        self.number_copies()
         return self
 
     def item(self, item):
@@ -151,6 +153,8 @@ class Reader:
     def assignment(self, tree, span):
         if tree.op == "=":
             place = self.expressions.place(tree.lvalue)
+            if place.kind is None:
+                return self.copy(place, tree.rvalue, span)
             return self.assign(place, self.expressions.value(tree.rvalue), tree.rvalue, span)
         if tree.op == "+=":
             return self.increased(tree.lvalue, self.expressions.integer(tree.rvalue, "+= takes an int"), span)
@@ -173,8 +177,21 @@ class Reader:
         self.refuse_place(place)
         self.commands.append(Command(place, self.expressions.converted(value, place.type, tree), span))
 
+    def copy(self, struct, tree, span):
+        """An assignment of a whole struct. The table's copy is an int, and needs a place: a variable that C has no name for."""
+        copied = Node(VARIABLE, None, 0, INT, span)
+        self.copies.append(copied)
+        self.commands.append(Command(copied, self.expressions.copied(struct, tree, span), span))
+
+    def number_copies(self):
+        """Numbers that variable. It comes after all others, so that these are the words that they are without it."""
+        if self.copies:
+            variable = self.scope.declare(COPIED, INT, self.copies[0].span)
+            for place in self.copies:
+                place.a = variable.number
+
     def refuse_place(self, place):
         if isinstance(place.type, Array):
             raise Faulty(place.span, "an array can't be assigned", "assign its words one by one")
         if place.kind is None:
-            raise Faulty(place.span, "an assignment of a whole struct is not in the fragment", "assign its fields one by one")
+            raise Faulty(place.span, f"`{place.span.text}` is a {place.type}, which can't be added to", "use its fields one by one")

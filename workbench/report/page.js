@@ -8,8 +8,11 @@
   const last = data.steps.length - 1;
   const KINDS = ["", "inside", "outside", "unbounded"];
   const TAGS = { read: "read", address: "address taken", written: "written" };
+  const FOLDS = { clear: " clear words", words: " words that the run leaves alone ", copied: " words within a copied struct " };
   const LANES = 7, LANE = 9; // arrows run side by side in so many lanes, of so many pixels
   const PAGE = 900; // a picture of so many pixels fits a sheet of paper
+  const wordsOf = (stretches) => stretches.flatMap(([first, end]) => Array.from({ length: end - first + 1 }, (_, more) => first + more));
+  for (const one of data.steps) for (const kind in TAGS) one[kind] = wordsOf(one[kind]);
   const rowOf = new Map(); // the row of each word that has one, and of the first word of a fold
   let step = -1, memory = new Map(), held; // `held` is the pointer's word that the mouse or the focus is on
 
@@ -63,7 +66,7 @@
     );
     if (fold) {
       row.classList.add("fold");
-      note.append(end - first + 1 + (clear ? " clear words" : " words that the run leaves alone "));
+      note.append(end - first + 1 + FOLDS[fold]);
       if (!clear) {
         const open = make("button", { type: "button", class: "open" }, "show them");
         open.addEventListener("click", () => unfold(group, row, first, end));

@@ -7,7 +7,7 @@ from string import Template
 
 from ..endings import Ending
 from .pagesource import c_source, table_source, text_source
-from .picture import Picture
+from .picture import ALL_SHOWN, Picture
 from ..regions import Regions
 from ..wording import counted, listed
 from .steps import steps_of
@@ -44,7 +44,9 @@ def wanted_words(answer):
     cause = answer.cause
     if cause is None:
         return ()
-    return {*range(cause.place, min(cause.place + cause.words, answer.unused)), *((cause.base, cause.end - 1) if cause.end else ())}
+    words = range(cause.place, min(cause.place + cause.words, answer.unused))
+    shown = words if len(words) <= ALL_SHOWN else (words[0], words[-1])
+    return {*shown, *((cause.base, cause.end - 1) if cause.end else ())}
 
 
 def step_data(step, changed, picture, story, routine):
@@ -57,12 +59,23 @@ def step_data(step, changed, picture, story, routine):
         "says": story.step(step, here, blocks),
         "free": story.free(step.unused),
         "words": changed,
-        "read": step.read,
-        "address": step.addressed,
-        "written": step.written,
+        "read": stretches(step.read),
+        "address": stretches(step.addressed),
+        "written": stretches(step.written),
         "obtained": [block.start for block in blocks],
         "bounds": [list(bounds) for bounds in bounds_of(step, here, story, routine)],
     }
+
+
+def stretches(words):
+    """Words as first and last of each stretch in which they follow each other: a copy has many."""
+    found = []
+    for word in words:
+        if found and found[-1][1] == word - 1:
+            found[-1][1] = word
+        else:
+            found.append([word, word])
+    return found
 
 
 def bounds_of(step, regions, story, routine):
@@ -70,10 +83,10 @@ def bounds_of(step, regions, story, routine):
     it wrote."""
     told = {}
     for one in step.followed:
-        told.setdefault((one.base, one.end, "Followed"), []).append(pointer_text(routine, one.node))
+        told.setdefault((one.base, one.end, "Followed"), []).append(pointer_text(routine, one))
     cause = story.answer.cause
     if cause and cause.end and step.command == story.answer.command:
-        told.setdefault((cause.base, cause.end, "Not followed:"), []).append(pointer_text(routine, cause.node))
+        told.setdefault((cause.base, cause.end, "Not followed:"), []).append(pointer_text(routine, cause))
     for word, (_, base, end) in step.changed.items() if not told else ():
         if end and word in step.written:
             told[base, end, "Stored in"] = [spoken(regions.word_name(word)).removeprefix("variable ")]
@@ -81,9 +94,9 @@ def bounds_of(step, regions, story, routine):
         yield base, end, f"{verb} {listed(list(dict.fromkeys(pointers)))}, bounds [{base}, {end}): {regions.stretch_name(base, end)}."
 
 
-def pointer_text(routine, node):
-    """The pointer that a follow or a field goes by."""
-    return routine.unparser.text(routine.table.nodes[node][1])
+def pointer_text(routine, followed):
+    """The pointer that a check goes by."""
+    return routine.unparser.text(routine.pointer(followed))
 
 
 def failure(answer, story):

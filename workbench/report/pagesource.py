@@ -17,7 +17,7 @@ def c_source(routine, answer):
     """C line by line. Each stretch of a command has the command's number; the expression that failed has a mark of its own."""
     marks = [(span, f'data-command="{number}"') for number, span in enumerate(routine.command_spans)]
     if answer.cause:
-        marks.append((routine.node_spans[answer.cause.node], 'class="failed"'))
+        marks.append((routine.check_span(answer.cause), 'class="failed"'))
     items, at = [], 0
     for line in routine.source.text.rstrip("\n").split("\n"):
         items.append(item(marked(line.rstrip("\r"), at, marks)))

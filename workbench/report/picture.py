@@ -5,7 +5,7 @@ import copy
 from ..memory import FOLDED, grouped, note
 from ..table import INT, RECORD
 
-ALL_SHOWN = 64  # a group of so many words is shown word by word, but for clear ones
+ALL_SHOWN = 64  # a group, or a copy, of so many words is shown word by word, but for clear ones
 NO_ARROW, INSIDE, OUTSIDE, UNBOUNDED = range(4)
 
 
@@ -42,20 +42,25 @@ class Picture:
         return [word, value, base, end, note(regions, type, value, base, end), arrow(regions, type, value, base, end)]
 
     def in_use(self):
-        """The words that the run has to do with: those that are touched, that change, that a pointer leads to, and the ends of bounds."""
-        used = set()
+        """The words that the run has to do with: those that are touched, that change, that a pointer leads to, and the ends of bounds. Of a
+        large copy these are its ends and, where they are not many, the words that change; what lies between is told apart."""
+        used, copied = set(), set()
         for number, step in enumerate(self.steps):
-            used.update(step.read, step.addressed, step.written)
-            used.update(step.changed if number else ())
-            bounds = [(one.word, one.base, one.end) for one in step.followed] + [one for one in step.changed.values() if one[2]]
-            for value, base, end in bounds:
+            inner = {word for words in step.copied if len(words) > ALL_SHOWN for word in words[1:-1]}
+            if len(step.changed) <= ALL_SHOWN:
+                inner.difference_update(step.changed)
+            touched = {*step.read, *step.addressed, *step.written, *(step.changed if number else ())}
+            used |= touched - inner
+            copied |= inner
+            kept = [one for word, one in step.changed.items() if one[2] and word not in inner]
+            for value, base, end in [(one.word, one.base, one.end) for one in step.followed] + kept:
                 used.update((value, base, end - 1))
-        return used
+        return used, copied
 
     def rows(self, wanted=()):
         """Of each group its rows."""
-        used, start = self.in_use() | set(wanted), self.steps[0].changed
-        return [group.rows(used, start) for group in self.groups]
+        (used, copied), start = self.in_use(), self.steps[0].changed
+        return [group.rows(used | set(wanted), start, copied) for group in self.groups]
 
 
 class Group:
@@ -88,19 +93,21 @@ class Group:
             "rows": rows,
         }
 
-    def rows(self, used, start):
-        """First and last word of each row, and of a fold whether its words are clear. Words that stay as they were at the start are folded:
-        clear ones, and others in a large group."""
-        shown = [word in used or (word in start and self.end - self.start <= ALL_SHOWN) for word in range(self.start, self.end)]
+    def rows(self, used, start, copied=()):
+        """First and last word of each row, and of a fold what its words are. Words that stay as they were at the start are folded, clear ones,
+        and others in a large group; and so is what lies within a large copy."""
+
+        def fold(word):
+            if word in used or (word in start and self.end - self.start <= ALL_SHOWN):
+                return None
+            return "copied" if word in copied else "words" if word in start else "clear"
+
         rows, at = [], self.start
         while at < self.end:
-            end = at + 1
-            while not shown[at - self.start] and end < self.end and not shown[end - self.start] and (at in start) == (end in start):
+            end, kind = at + 1, fold(at)
+            while kind and end < self.end and fold(end) == kind:
                 end += 1
-            if end - at < FOLDED:
-                rows += [[word, word] for word in range(at, end)]
-            else:
-                rows.append([at, end - 1, "words" if at in start else "clear"])
+            rows += [[word, word] for word in range(at, end)] if end - at < FOLDED else [[at, end - 1, kind]]
             at = end
         return rows
 

@@ -1,22 +1,24 @@
 """A run step by step, by runs alone. The state after a command is what the proved machine leaves when it runs the table without the later
 commands. What a command follows is asked of it too: it explains an abort by the place wanted and the bounds, so each follow is made to fail
-once, on purpose. Nothing is worked out here but which word a number of an answer stands for."""
+once, on purpose, and so is each struct of a copy. Nothing is worked out here but which word a number of an answer stands for."""
 
 from dataclasses import dataclass, field, replace
 
-from .cuts import FAR, prefix, probe
+from ..cuts import FAR, prefix, probe
 from ..errors import Stop
-from ..table import ADDRESS, DEREF, FIELD, MALLOC, READ, VARIABLE, WORD
+from ..table import ADDRESS, COPY, DEREF, FIELD, MALLOC, READ, VARIABLE, WORD
 
 BATCH = 1 << 21  # words of memory that the answers of one batch may have
 CLEAR = (0, 0, 0)
+FOLLOWS = {DEREF: (0,), FIELD: (0,), COPY: (0, 1)}  # the operands that a kind checks: 0 for a, 1 for b
 
 
 @dataclass(frozen=True)
 class Followed:
-    """A follow or field that was passed: its node, the word it leads to and the bounds of the pointer."""
+    """A check that was passed: its node and which operand of it was followed, the word it leads to and the bounds of the pointer."""
 
     node: int
+    operand: int
     word: int
     base: int
     end: int
@@ -33,6 +35,7 @@ class Step:
     read: list = field(default_factory=list)  # words, in the order in which they were read
     addressed: list = field(default_factory=list)  # words whose address was taken
     written: list = field(default_factory=list)
+    copied: list = field(default_factory=list)  # ranges of words: of each copy those that it read and those that it wrote
     followed: list = field(default_factory=list)
     told: bool = True  # False where the machine could not be asked what the command followed
 
@@ -58,7 +61,8 @@ def states(table, machine, call, answer, count):
         steps.append(Step(number - 1 if number else None, after.unused, changed))
         before = after.words
     names = prefix(table, count)[1]
-    if replace(after, cause=after.cause and replace(after.cause, node=names[after.cause.node])) != answer:
+    told = replace(answer, cause=answer.cause and replace(answer.cause, operand=0))
+    if replace(after, cause=after.cause and replace(after.cause, node=names[after.cause.node])) != told:
         raise Stop("mavis: the run of the last step is not the run itself")
     return steps
 
@@ -72,28 +76,34 @@ def answers(machine, call, answer, tables):
 
 
 def follows(table, machine, call, answer, count):
-    """Every follow and field that was passed, by its node, and the commands of which that could not be asked. The one that ended the run was
+    """Every check that was passed, by its node and operand, and the commands of which that could not be asked. The one that ended the run was
     not passed; and the probe of one that the run did not come to ends elsewhere."""
     asked, untold = [], set()
+    for command, node, operand in checks(table, answer, count):
+        made = probe(table, node, command + 1, operand)
+        if made is None:
+            untold.add(command)
+        else:
+            asked.append((node, operand, *made))
+    told = answers(machine, call, answer, (cut for _, _, cut, _ in asked))
+    causes = [(node, operand, names, one.cause) for (node, operand, _, names), one in zip(asked, told) if one.cause]
+    found = [passed(table, node, operand, cause) for node, operand, names, cause in causes if names[cause.node] == node]
+    return {(one.node, one.operand): one for one in found}, untold
+
+
+def checks(table, answer, count):
+    """The checks of the first commands, each as its command, its node and an operand, but for the node that ended the run."""
     for command in range(count):
         for node in table.nodes_of(command):
-            if table.nodes[node][0] not in (DEREF, FIELD) or (answer.cause and node == answer.cause.node):
-                continue
-            made = probe(table, node, command + 1)
-            if made is None:
-                untold.add(command)
-            else:
-                asked.append((node, *made))
-    told = answers(machine, call, answer, (cut for _, cut, _ in asked))
-    causes = [(node, names, one.cause) for (node, _, names), one in zip(asked, told) if one.cause]
-    return {node: passed(table, node, cause) for node, names, cause in causes if names[cause.node] == node}, untold
+            if not answer.cause or node != answer.cause.node:
+                yield from ((command, node, operand) for operand in FOLLOWS.get(table.nodes[node][0], ()))
 
 
-def passed(table, node, cause):
+def passed(table, node, operand, cause):
     """From a probe's explanation to the word that the node leads to: the pointer's value is FAR back, and the field's offset is added."""
     kind, pointer, number = table.nodes[node]
     offset = table.offset(table.record_of(table.node_type(pointer)), number) if kind == FIELD else 0
-    return Followed(node, (cause.place - offset - FAR) % WORD + offset, cause.base, cause.end)
+    return Followed(node, operand, (cause.place - offset - FAR) % WORD + offset, cause.base, cause.end)
 
 
 def reached(table, answer, command):
@@ -106,14 +116,22 @@ def reached(table, answer, command):
 
 
 def describe(step, table, followed, nodes, done):
-    """What a command read, wrote and took addresses of: the words that its places are, of those nodes that were worked out."""
+    """What a command read, wrote and took addresses of: the words that its places are, of those nodes that were worked out. What a copy wrote
+    is written even where the command fails after it."""
     place = table.commands[step.command][0]
     words = {node: 1 + table.nodes[node][1] for node in nodes if table.nodes[node][0] == VARIABLE}
     for node in table.nodes_of(step.command):
         kind, child, _ = table.nodes[node]
-        if node in followed:
-            words[node] = followed[node].word
-            step.followed.append(followed[node])
+        here = [followed[node, operand] for operand in FOLLOWS.get(kind, ()) if (node, operand) in followed]
+        step.followed += here
+        if kind == COPY and len(here) == 2:
+            size = table.record_size(table.record_of(table.node_type(child)))
+            to, source = (range(one.word, one.word + size) for one in here)
+            step.written += to
+            step.read += source
+            step.copied += [source, to]
+        elif here:
+            words[node] = here[0].word
         elif kind in (READ, ADDRESS) and child in words:
             (step.read if kind == READ else step.addressed).append(words[child])
     if done and place in words:

@@ -7,6 +7,7 @@ from ..table import INT
 from ..wording import counted, listed
 
 NAMED = 6  # as many words are named in a sentence
+RUN = 3  # as many in a row are told together
 RESULTS = 3  # as many ints are told of a run that is done
 
 
@@ -21,8 +22,8 @@ class Story:
         return {"done": self.done, "abort": self.aborted, "noroom": self.no_room}[self.answer.ending]()
 
     def done(self):
-        ints = [number for number, type in enumerate(self.routine.table.variables) if type == INT]
-        values = [f"{self.routine.names.variables[number]} is {self.answer.words[1 + number][0]}" for number in ints]
+        names, types = self.routine.names.own, self.routine.table.variables
+        values = [f"{name} is {self.answer.words[1 + number][0]}" for number, name in enumerate(names) if types[number] == INT]
         told = f"; {listed(values)}" if 0 < len(values) <= RESULTS else ""
         carried = {0: "there is no command", 1: "the one command was carried out", 2: "both commands were carried out"}
         return f"Done: {carried.get(self.count, f'all {self.count} commands were carried out')}{told}."
@@ -36,11 +37,11 @@ class Story:
 
     def aborted(self):
         cause = self.answer.cause
-        name = plain(self.routine.node_name(cause.node))
+        name = plain(self.routine.check_name(cause))
         if cause.reason == NO_BOUNDS:
             pointer = self.ending.values(cause)[0]
             return f"Aborted {self.where()}: {name} follows a pointer without bounds ({pointer}), and nothing was touched through it."
-        what = spoken(self.regions.word_name(cause.place))
+        what = spoken(self.ending.wanted_name(cause))
         wanted = (
             f"{counted(cause.words, 'word')} at {cause.place} ({what})"
             if what
@@ -78,7 +79,7 @@ class Story:
         told += [f"Obtained {listed([sized(block) for block in blocks])}."] if blocks else []
         told += touched("Wrote", step.written, regions)
         told += [] if step.told else ["Which words it followed pointers to is not told: the table is too full for the question."]
-        return " ".join(told + ([self.failure()] if ended else []))
+        return " ".join(told + ([self.failure(step)] if ended else []))
 
     def start(self):
         registers = [sized(region) for region in self.regions.all if region.what == "register"]
@@ -90,10 +91,11 @@ class Story:
         which = f"word {last}" if left == 1 else f"words {unused} to {last}"
         return f"Free: {which} ({left} of {self.call.memory})." if left else "Free: no word is left."
 
-    def failure(self):
-        """The end of a run within a command, in the words of its explanation."""
+    def failure(self, step):
+        """The end of a run within a command, in the words of its explanation. A copy that came before the failure has written."""
         told = self.facts()
-        return " ".join(f"{name.capitalize()}: {text}." for name, text in told) + " Nothing was assigned."
+        more = " more" if step.written else ""
+        return " ".join(f"{name.capitalize()}: {text}." for name, text in told) + f" Nothing{more} was assigned."
 
     def facts(self):
         """What the explanation tells of an abort or no room, as pairs."""
@@ -110,11 +112,28 @@ def sized(region):
 
 
 def touched(verb, found, regions):
-    """A sentence about words, each told once."""
-    each = list(dict.fromkeys(found))
-    named = [f"word {word} ({regions.word_name(word)})" for word in each[:NAMED]]
-    more = [f"{len(each) - NAMED} more"] if len(each) > NAMED else []
-    return [f"{verb} {listed(named + more)}."] if each else []
+    """A sentence about words, each told once; many in a row, as a copy touches them, are told together."""
+    runs = runs_of(dict.fromkeys(found), regions)
+    named = [named_run(run, regions) for run in runs[:NAMED]]
+    more = [f"{sum(map(len, runs[NAMED:]))} more"] if len(runs) > NAMED else []
+    return [f"{verb} {listed(named + more)}."] if runs else []
+
+
+def runs_of(words, regions):
+    """Words in lists: those that follow each other in one region in one list, if they are many, and every other one by itself."""
+    runs = []
+    for word in words:
+        if runs and runs[-1][-1] == word - 1 and regions.of(word) is regions.of(word - 1):
+            runs[-1].append(word)
+        else:
+            runs.append([word])
+    return [part for run in runs for part in ([run] if len(run) >= RUN else [[word] for word in run])]
+
+
+def named_run(run, regions):
+    if len(run) == 1:
+        return f"word {run[0]} ({regions.word_name(run[0])})"
+    return f"words {run[0]} to {run[-1]} ({regions.stretch_name(run[0], run[-1] + 1)})"
 
 
 def spoken(name):
@@ -125,7 +144,7 @@ def spoken(name):
 
 def plain(name):
     """A node's name without quotes: as C writes it, or its number with that."""
-    return re.sub(r"^(node \d+), (.*),$", r"\1 (\2)", name.replace("`", ""))
+    return re.sub(r"(node \d+), (.*),$", r"\1 (\2)", name.replace("`", ""))
 
 
 def refusal_headline(answer, shown):
