@@ -1,6 +1,6 @@
 -- Laws of the check of a node: after its kind, of its children, and as a whole.
 use Prim.Native.Nat.{ℕ, suc, _+_, _<_, _%_}
-use mathlib.Core.Bool.{Bool, true, false, not}
+use mathlib.Core.Bool.{Bool, true, false}
 use mathlib.Core.Path.{_≡_, refl, sym, _∙_, ap}
 use mathlib.Core.List.{[], _∷_, _++_}
 use native.Mathlib.Omega.{arith}
@@ -12,17 +12,16 @@ use lib.Seq.{getD-set-same, getD-set-other}
 use Rattle.semantics.specs.Words.{Words, word, if_then_else_}
 use Rattle.semantics.specs.Table.{nodes, count, item-place, item, known-type, Kind, field, read, unknown, Sort, neither, sort-of, Operand, operand-a, operand-b, child, children, type-rule, types-below, node-type, node-kind, node-a, node-b, pointed-record, points-to-record, kind-of}
 use Rattle.semantics.specs.Table as table
-use Rattle.semantics.specs.Check.{Verdict, passes, refused, _or-else_, require, each, same-sort, is-child, operand-fault, types-fit, deeper, node-fault, occurrences}
+use Rattle.semantics.specs.Check.{Verdict, passes, refused, _or-else_, require, each, same-sort, is-child, operand-fault, types-fit, node-fault, occurrences}
 use Rattle.semantics.proofs.Passed.{or-else-passes, require-passes, each-passes}
 use Rattle.semantics.proofs.Trees.{is-child-true, types-known}
-use Rattle.semantics.proofs.Depth.{shallow}
 use Rattle.layout.specs.Layout.{verdict-of}
 use Rattle.layout.specs.Lists.{by-verdict}
 use Rattle.layout.specs.Notes.{bits, note}
 use Rattle.layout.specs.declared.Verdict as answer
 use Rattle.layout.specs.declared.Verdict.the-variants as the
-use Rattle.layout.proofs.Laws.{require-holds, or-else-pass, or-else-assoc}
-use Rattle.nodes.specs.Nodes.{typed-by, type-found, kind-fault, typed-kind, known-fault, field-found, read-bit}
+use Rattle.layout.proofs.Laws.{or-else-pass, or-else-assoc}
+use Rattle.nodes.specs.Nodes.{typed-by, type-found, kind-fault, typed-kind, field-found, read-bit}
 use Rattle.nodes.specs.Promises.{Placed, Reached, typed-verdict, Small, note-added, Counted, Countable, Countable-both, Room, Told, Noted}
 use Rattle.nodes.specs.declared.Typed.{Typed}
 use Rattle.nodes.specs.declared.Typed.the-variants.{Is, Refused}
@@ -110,17 +109,6 @@ word-child t n o x p σ e q = is-child-true t σ n x (require-passes (is-child t
 pub counted-none : (used : Words) → Counted used used []
 counted-none used = record { all = refl; more = λ i. omega arith }
 
-or-else-none : (u : Verdict) → u or-else passes ≡ u
-unfolding _or-else_
-or-else-none passes = refl
-or-else-none (refused n p) = refl
-
--- Refusal 12 is never given.
-without-depth : (t : Words) (n : ℕ) → n < 512 → node-fault t n ≡ known-fault t n (node-kind t n) (node-a t n) (node-b t n)
-unfolding known-fault kind-fault node-fault
-without-depth t n few =
-    rw (require-holds (not (deeper t 512 n)) 12 (item-place t nodes n 0) (shallow t n few), or-else-none (require (types-fit t (node-kind t n) (node-a t n) (node-b t n)) 8 (item-place t nodes n 0)))
-
 verdict-is : (v : Verdict) (ty : ℕ) → typed-verdict (typed-by v ty) ≡ v
 verdict-is passes ty = refl
 verdict-is (refused n p) ty = refl
@@ -143,8 +131,8 @@ module _ {t notes : Words} {n place : ℕ} (h : Reached t notes n place) where
   b-at = ap (word t) (omega (arith, h .here))
 
   unknown-refused : kind-of (word t place) ≡ unknown → node-fault t n ≡ refused 7 place
-  unfolding known-fault require _or-else_
-  unknown-refused e = rw (without-depth t n (h .few), kind-at, e, h .here)
+  unfolding node-fault require _or-else_
+  unknown-refused e = rw (kind-at, e, h .here)
 
   pub unknown-noted : kind-of (word t place) ≡ unknown → {used : Words} → Noted t n (the.Refused 7 place) notes notes used used
   unknown-noted e {used} = record { verdict = sym (unknown-refused e); noted = rw (unknown-refused e); counted = rw (unknown-refused e) (counted-none used) }
@@ -152,8 +140,8 @@ module _ {t notes : Words} {n place : ℕ} (h : Reached t notes n place) where
   -- A node of kind k, from what its check answered.
   module _ (k : Kind) (e : kind-of (word t place) ≡ k) (s : same-sort neither (sort-of k) ≡ false) {x : Typed} (q : x ≡ typed-kind t n k (word t (place + 1)) (word t (place + 2))) where
     same-fault : node-fault t n ≡ kind-fault t n k (word t (place + 1)) (word t (place + 2))
-    unfolding known-fault require _or-else_
-    same-fault = rw (without-depth t n (h .few), kind-at, e, a-at, b-at, s)
+    unfolding node-fault kind-fault require _or-else_
+    same-fault = rw (kind-at, e, a-at, b-at, s)
 
     verdict-same : typed-verdict x ≡ node-fault t n
     unfolding typed-kind

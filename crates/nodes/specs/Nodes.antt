@@ -1,10 +1,9 @@
 -- What the check of a node answers: a refusal, or the node's type; and what it asks of a note.
 use Prim.Native.Nat.{ℕ, _*_, _/_, _%_}
-use mathlib.Core.Bool.{not}
 use lib.Dec.{ltb}
 use Rattle.semantics.specs.Words.{Words, word}
-use Rattle.semantics.specs.Table.{nodes, item-place, field-total, field-type, Kind, Sort, place, value, neither, sort-of, operand-a, operand-b, type-by-kind, types-below}
-use Rattle.semantics.specs.Check.{Verdict, passes, refused, _or-else_, require, same-sort, operand-fault, types-fit}
+use Rattle.semantics.specs.Table.{nodes, item-place, field-total, field-type, Kind, Sort, place, value, neither, operand-a, operand-b, type-by-kind, types-below}
+use Rattle.semantics.specs.Check.{Verdict, passes, refused, _or-else_, require, operand-fault, types-fit}
 use Rattle.layout.specs.Notes.{variable-bit, place-bit}
 use Rattle.nodes.specs.declared.Typed.{Typed}
 use Rattle.nodes.specs.declared.Typed.the-variants.{Is, Refused}
@@ -37,10 +36,6 @@ kind-fault t n k a b =
 
 unfoldable pub typed-kind : Words → ℕ → Kind → ℕ → ℕ → Typed
 typed-kind t n k a b = typed-by (kind-fault t n k a b) (type-found t n k a b)
-
--- The whole check of a node but 12, which is never given.
-unfoldable pub known-fault : Words → ℕ → Kind → ℕ → ℕ → Verdict
-known-fault t n k a b = require (not (same-sort neither (sort-of k))) 7 (item-place t nodes n 0) or-else kind-fault t n k a b
 
 -- Field f of record r, for a node at p.
 unfoldable pub field-found : Words → ℕ → ℕ → ℕ → Typed

@@ -356,7 +356,7 @@ fn with_read(x: Typed, notes: &mut Notes, uses: &mut Uses, n: usize, a: u32) -> 
     }
 }
 
-// Checks node n. A test for 12 is not needed: there are too few nodes for a path of more than 512.
+// Checks node n.
 pub fn check_node(
     t: &[u32],
     notes: &mut Notes,

@@ -1,12 +1,12 @@
 -- Each table of examples computes to what it says: those that document 01 prints and that requests 1 and 2 ask for (specs/Examples.antt), and
 -- those that hold each sentence (specs/RefusalExamples.antt, CallExamples.antt, RunExamples.antt, TreeExamples.antt, ExplainExamples.antt, LeftExamples.antt,
--- CopyExamples.antt).
+-- CopyExamples.antt). Last the check as it was before request 7 (DepthExamples.antt).
 use mathlib.Core.Path.{_≡_, refl}
 use mathlib.Core.List.{[], _∷_, map}
 use Rattle.semantics.specs.Words.{zeroed, words-from, moved, sum-below, any-below, all-below, seen-before, least-below, grow}
 use Rattle.semantics.specs.Table.{count-place, count, item-place, item, is-pointer, known-type, known-target, target, points-to-type, points-to-record, pointed-record, entry-below, field-total, first-field, field-type, field-count, field-offset, size-of, kind-of, node-kind, children, type-rule, types-below, node-type}
 use Rattle.semantics.specs.Registers.{register-place, register-start}
-use Rattle.semantics.specs.Check.{_or-else_, require, each, section-fault, words-over, record-fault, field-sum-fault, field-fault, pointer-fault, variable-fault, is-child, deeper, node-fault, command-fault, uses, use-fault, check, lengths-fit, input-fits, input-fault, arguments-fault, extent-fault, names-pointer, name-fault, room-fault, registers-fault, call-fault}
+use Rattle.semantics.specs.Check.{_or-else_, require, each, section-fault, words-over, record-fault, field-sum-fault, field-fault, pointer-fault, variable-fault, is-child, node-fault, command-fault, uses, use-fault, check, lengths-fit, input-fits, input-fault, arguments-fault, extent-fault, names-pointer, name-fault, room-fault, registers-fault, call-fault}
 use Rattle.semantics.specs.Syntax.{step-of, tree-rule, trees-below, tree-of, place-of, value-of}
 use Rattle.semantics.specs.Rules.{words-left, enough-left, checked, deref-step, field-step, touchable, read-step, malloc-step, each-noted, move-step, copy-step, place-at, value-at, assign-step, assign}
 use Rattle.semantics.specs.Run.{cleared, with-register, registers-below, begin, command, commands-below, run, call}
@@ -19,11 +19,13 @@ use Rattle.semantics.specs.RunExamples.{memory-runs, order-runs, place-r
 use Rattle.semantics.specs.ExplainExamples.{Telling, tell, reasons, nodes-told, first-words, explained, whole-calls, logged, logs, reasoned, bare-checks, some-words, starts, at-ending, endings, at-endings}
 use Rattle.semantics.specs.LeftExamples.{counted, numbers-left, left-runs}
 use Rattle.semantics.specs.CopyExamples.{shifted, shifts, copy-runs, overlaps, copy-orders, copies-told}
-use Rattle.semantics.specs.TreeExamples.{every-kind, roots, trees, small, worked, values, copies, copies-outcomes, stepped, steps, registered, wild, wild-runs, measured, depths}
+use Rattle.semantics.specs.TreeExamples.{every-kind, roots, trees, small, worked, values, copies, copies-outcomes, stepped, steps, registered, wild, wild-runs}
+use Rattle.semantics.proofs.Depth.{deeper, node-fault-before, check-before}
+use Rattle.semantics.proofs.DepthExamples.{measured, depths, judged-before, verdicts-before}
 
 -- To unfold this is to unfold every definition that a call comes down to.
 computed : Example → Example
-unfolding observed zeroed words-from moved sum-below any-below all-below seen-before least-below grow count-place count item-place item is-pointer known-type known-target target points-to-type points-to-record pointed-record entry-below field-total first-field field-type field-count field-offset size-of kind-of node-kind children type-rule types-below node-type _or-else_ require each section-fault words-over record-fault field-sum-fault field-fault pointer-fault variable-fault is-child deeper node-fault command-fault uses use-fault check lengths-fit input-fits input-fault arguments-fault register-place register-start extent-fault names-pointer name-fault room-fault registers-fault call-fault step-of tree-rule trees-below tree-of place-of value-of words-left enough-left checked deref-step field-step touchable read-step malloc-step each-noted move-step copy-step place-at assign-step assign cleared registers-below begin command commands-below run call
+unfolding observed zeroed words-from moved sum-below any-below all-below seen-before least-below grow count-place count item-place item is-pointer known-type known-target target points-to-type points-to-record pointed-record entry-below field-total first-field field-type field-count field-offset size-of kind-of node-kind children type-rule types-below node-type _or-else_ require each section-fault words-over record-fault field-sum-fault field-fault pointer-fault variable-fault is-child node-fault command-fault uses use-fault check lengths-fit input-fits input-fault arguments-fault register-place register-start extent-fault names-pointer name-fault room-fault registers-fault call-fault step-of tree-rule trees-below tree-of place-of value-of words-left enough-left checked deref-step field-step touchable read-step malloc-step each-noted move-step copy-step place-at assign-step assign cleared registers-below begin command commands-below run call
 computed x = observed x
 
 -- ---- Document 01's own, registers, and steps along records
@@ -142,10 +144,6 @@ pub wild-runs-end-so : map wild wild-runs ≡ wild-runs
 unfolding computed wild wild-runs
 wild-runs-end-so = refl
 
-pub depths-are-measured-so : map measured depths ≡ depths
-unfolding computed measured depths
-depths-are-measured-so = refl
-
 -- ---- How many words are left
 
 pub words-are-counted-so : map counted numbers-left ≡ numbers-left
@@ -216,3 +214,13 @@ copy-orders-end-so = refl
 pub copies-are-told-so : map tell copies-told ≡ copies-told
 unfolding accounted computed copies-told
 copies-are-told-so = refl
+
+-- ---- The check as it was before request 7
+
+pub depths-are-measured-so : map measured depths ≡ depths
+unfolding computed deeper measured depths
+depths-are-measured-so = refl
+
+pub tables-were-judged-so : map judged-before verdicts-before ≡ verdicts-before
+unfolding computed deeper node-fault-before check-before judged-before verdicts-before
+tables-were-judged-so = refl

@@ -17,6 +17,8 @@ pub mod Equations
 pub mod Ints
 pub mod Safety
 pub mod Depth
+pub mod DepthExamples
+pub mod Numbers
 pub mod Starts
 pub mod Causes
 pub mod Explain

@@ -1,4 +1,4 @@
--- Demand 3 of every begun run, and that refusal 12 is never given.
+-- Demand 3 of every begun run.
 use Prim.Native.Nat.{ℕ, zero, suc, _≤_, _<_}
 use mathlib.Core.Bool.{_&&_}
 use mathlib.Core.Path.{_≡_, refl, _∙_}

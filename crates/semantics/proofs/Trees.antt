@@ -34,12 +34,11 @@ node-ok t n h =
     let p0 = or-else-passes (require (not (same-sort neither (sort-of (node-kind t n)))) 7 (item-place t nodes n 0)) _ h in
     let p1 = or-else-passes (operand-fault t n (operand-a (node-kind t n)) (node-a t n) (item-place t nodes n 1)) _ (p0 .1) in
     let p2 = or-else-passes (operand-fault t n (operand-b (node-kind t n)) (node-b t n) (item-place t nodes n 2)) _ (p1 .1) in
-    let p3 = or-else-passes (require (types-fit t (node-kind t n) (node-a t n) (node-b t n)) 8 (item-place t nodes n 0)) _ (p2 .1) in
     record {
       kind-ok = require-passes _ _ _ (p0 .0);
       a-ok = p1 .0;
       b-ok = p2 .0;
-      fit = require-passes (types-fit t (node-kind t n) (node-a t n) (node-b t n)) _ _ (p3 .0);
+      fit = require-passes (types-fit t (node-kind t n) (node-a t n) (node-b t n)) _ _ (p2 .1);
     }
 
 same-sort-true : (s r : Sort) → same-sort s r ≡ true → s ≡ r

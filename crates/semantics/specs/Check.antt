@@ -1,4 +1,5 @@
--- Document 01, "What is turned away", and what requests 1 and 6 add to it: the refusals by number and place, in their order.
+-- Document 01, "What is turned away", with what requests 1 and 6 add to it and without 12, which request 7 takes off: the refusals by number and
+-- place, in their order.
 use Prim.Native.Nat.{ℕ, zero, suc, _+_}
 use mathlib.Core.Bool.{Bool, true, false, not, _&&_, _||_}
 use mathlib.Core.List.{[], _∷_}
@@ -104,23 +105,13 @@ types-fit t malloc a b = eqb (node-type t a) int
 types-fit t copy a b = points-to-record t (node-type t a) && eqb (node-type t a) (node-type t b)
 types-fit t unknown a b = true
 
-abbrev pub any-of : (ℕ → Bool) → Words → Bool
-any-of p [] = false
-any-of p (x ∷ xs) = p x || any-of p xs
-
--- 12: there are more than k nodes on a path downwards from node n. "A child is a node with a smaller number."
-unfoldable pub deeper : Words → ℕ → ℕ → Bool
-deeper t zero n = true
-deeper t (suc k) n = any-of (λ c. ltb c n && deeper t k c) (children t n)
-
--- "in a node kind, a, b (7 or 5), then 8, then 12"
+-- "in a node kind, a, b (7 or 5), then 8". Request 7: "12 leaves the check, the list and the order".
 unfoldable pub node-fault : Words → ℕ → Verdict
 node-fault t n =
     require (not (same-sort neither (sort-of (node-kind t n)))) 7 (item-place t nodes n 0)
     or-else operand-fault t n (operand-a (node-kind t n)) (node-a t n) (item-place t nodes n 1)
     or-else operand-fault t n (operand-b (node-kind t n)) (node-b t n) (item-place t nodes n 2)
     or-else require (types-fit t (node-kind t n) (node-a t n) (node-b t n)) 8 (item-place t nodes n 0)
-    or-else require (not (deeper t 512 n)) 12 (item-place t nodes n 0)
 
 -- A command's place node and value node.
 abbrev pub command-place : Words → ℕ → ℕ
@@ -150,7 +141,7 @@ uses t n =
 unfoldable pub use-fault : Words → ℕ → Verdict
 use-fault t n = require (eqb (uses t n) 1) 9 (item-place t nodes n 0)
 
--- "The check alone gives 1 to 9 and 12, or passes."
+-- "The check alone gives 1 to 9 .. or passes."
 unfoldable pub check : Words → Verdict
 check t =
     each 6 (section-fault t)

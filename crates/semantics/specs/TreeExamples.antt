@@ -1,11 +1,10 @@
 -- What the answers of calls don't show: trees with all that elaboration settles, the value of each kind of tree, a copy with its events, registers
--- over dirty words, steps without a rule, and the test for refusal 12.
+-- over dirty words, and steps without a rule.
 use Prim.Native.Nat.{ℕ, _+_}
-use mathlib.Core.Bool.{Bool, true, false}
+use mathlib.Core.Bool.{true, false}
 use mathlib.Core.List.{List, [], _∷_, _++_, map}
 use lib.ListN.{replicate}
 use Rattle.semantics.specs.Words.{Words}
-use Rattle.semantics.specs.Check.{deeper}
 use Rattle.semantics.specs.Syntax.{Value, Tree, place, value, Variable, Number, NoValue}
 use Rattle.semantics.specs.Syntax as tree
 use Rattle.semantics.specs.Rules.{Datum, unbounded, named, followed, Event, loaded, stored, allocated, tested, State, Outcome, ok, fails, no-room, no-rule, copy-step, value-at}
@@ -265,32 +264,4 @@ wild-runs =
     -- a node of no kind, as a value and as a place
     ∷ record { table = 0 ∷ 0 ∷ 0 ∷ 1 ∷ 0 ∷ 2 ∷ 1 ∷ 0 ∷ 0 ∷ 12 ∷ 0 ∷ 0 ∷ 1 ∷ 0 ∷ 1 ∷ []; commands = 1; unused = 2; ending = stuck 0 }
     ∷ record { table = 0 ∷ 0 ∷ 0 ∷ 1 ∷ 0 ∷ 2 ∷ 12 ∷ 0 ∷ 0 ∷ 4 ∷ 0 ∷ 0 ∷ 1 ∷ 0 ∷ 1 ∷ []; commands = 1; unused = 2; ending = stuck 0 }
-    ∷ []
-
--- ---- 12, "more than 512 nodes on a path downwards", which no table is refused for: the test by itself, with smaller numbers
-
--- Nodes 4 and 5 are sums of a constant, node 3, and a cast of a cast of a constant, nodes 2 to 0. Nodes 6 and 7 name themselves and a later node.
-abbrev pub long-paths : Words
-long-paths =
-    0 ∷ 0 ∷ 0 ∷ 0 ∷ 9
-    ∷ 4 ∷ 7 ∷ 0 ∷ 8 ∷ 0 ∷ 0 ∷ 8 ∷ 1 ∷ 0 ∷ 4 ∷ 8 ∷ 0 ∷ 5 ∷ 3 ∷ 2 ∷ 5 ∷ 2 ∷ 3 ∷ 8 ∷ 6 ∷ 0 ∷ 8 ∷ 8 ∷ 0 ∷ 4 ∷ 9 ∷ 0
-    ∷ 0 ∷ []
-
--- A number of nodes, a node, and whether more are on a path from it.
-pub record Depth : Type 0 where
-  pub nodes : ℕ
-  pub from : ℕ
-  pub more : Bool
-
-abbrev depth : ℕ → ℕ → Bool → Depth
-depth k n b = record { nodes = k; from = n; more = b }
-
-unfoldable pub measured : Depth → Depth
-measured x = depth (x .nodes) (x .from) (deeper long-paths (x .nodes) (x .from))
-
-unfoldable pub depths : List Depth
-depths =
-    depth 0 3 true ∷ depth 1 3 false ∷ depth 2 2 true ∷ depth 3 2 false
-    ∷ depth 3 4 true ∷ depth 4 4 false ∷ depth 3 5 true ∷ depth 4 5 false
-    ∷ depth 0 6 true ∷ depth 1 6 false ∷ depth 1 7 false
     ∷ []
