@@ -10,7 +10,7 @@ from table_page import MACHINE, NO_COMMANDS, PAGE, call_of_text, first_line
 from workbench import text
 from workbench.c.declarations import FIELD_WORDS
 from workbench.machine import LONGEST, Call
-from workbench.table import ADDRESS, COPY, DEREF, FIELD, INT, KIND_NAMES, MALLOC, SECTIONS, SUM, VOID_POINTER, WORD, Table, spot
+from workbench.table import ADDRESS, COPY, DEREF, FIELD, INT, KIND_NAMES, MALLOC, SUM, VOID_POINTER, WORD, Table, spot
 
 # What the page calls the place of a refusal, and the word of the table that this is.
 PLACES = {
@@ -110,14 +110,12 @@ class Told(unittest.TestCase):
     """What the page says of refusals beside its examples."""
 
     def test_numbers(self):
-        """Which refusals depend on what, and the one that is never given."""
+        """Which refusals depend on what, and the number that is not used."""
         kinds = r"Refusals (\d+) to (\d+) depend on the table .* (\d+) and (\d+) depend on the memory .*, (\d+) to (\d+) on its registers"
-        never = r"(\d+) is reserved for nodes nested more than (\d+) deep and is never given, since a table has at most (\d+) nodes"
-        *told, reserved, deep, most = map(int, PAGE.said(rf"{kinds}\. {never}"))
+        *told, unused = map(int, PAGE.said(rf"{kinds}\. The number (\d+) is not used"))
         given = [sorted({int(row[0]) for row in rows_of(example)}) for example in ("Table", "Text", "List")]
         self.assertEqual([number for each in given for number in (each[0], each[-1])], told)
-        self.assertEqual([number for number in range(1, 16) if number != reserved], sum(given, []))
-        self.assertEqual([SECTIONS[4].most] * 2, [deep, most])
+        self.assertEqual([number for number in range(1, 16) if number != unused], sum(given, []))
 
     def test_conditions(self):
         """The limits within the conditions."""

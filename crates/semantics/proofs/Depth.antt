@@ -119,6 +119,7 @@ find p (y ∷ ys) (List·Memᴰ·tail m) h = go (p y) (find p ys m h)
     go true e = refl
     go false e = e
 
+-- Where it holds there is a path with one node more than k.
 pub deeper-has-path : (t : Words) (k n : ℕ) → deeper t k n ≡ true → Path t n (suc k)
 unfolding deeper
 deeper-has-path t zero n e = alone
@@ -126,6 +127,7 @@ deeper-has-path t (suc k) n e =
     let f = found (λ c. ltb c n && deeper t k c) (children t n) e in
     down (f .among) (deeper-has-path t k (f .number) (and-true (ltb (f .number) n) (deeper t k (f .number)) (f .holds) .1))
 
+-- Where a path has more than k nodes it holds, if no node up to n is refused.
 pub path-is-deeper : {t : Words} {n j : ℕ} → Up-to t n → Path t n j → (k : ℕ) → k < j → deeper t k n ≡ true
 unfolding deeper
 path-is-deeper pass path zero more = refl

@@ -140,16 +140,23 @@ fn cases_get_everywhere() {
     let endings = [("done", 1_000), ("abort", 1_000), ("noroom", 1_000)];
     more_than(&spread.answers, &endings);
     more_than(&spread.answers, &[("pass", 500), ("case", 5)]);
-    // No table is refused with 12.
-    for number in (1..=11).chain(13..=15) {
-        more_than(&spread.answers, &[(&format!("refused {number}"), 60)]);
-    }
+    refusals_are_given(&spread.answers);
     assert!(spread.begun > 4_000 && spread.with_registers > spread.begun / 2);
     steps_lead_everywhere(&spread.steps);
     println!("copies: {:#?}", spread.copies);
     more_than(&spread.copies, &COPIES);
     println!("explanations: {:#?}", spread.explanations);
     more_than(&spread.explanations, &EXPLANATIONS);
+}
+
+/// Each number of a refusal comes often, and no other: 12 is not used.
+fn refusals_are_given(answers: &Counts) {
+    let numbers: Vec<u32> = (1..=11).chain(13..=15).collect();
+    for number in &numbers {
+        more_than(answers, &[(&format!("refused {number}"), 60)]);
+    }
+    let given = answers.keys().filter(|name| name.starts_with("refused "));
+    assert_eq!(given.count(), numbers.len());
 }
 
 /// At least so many cases with copies of each name.

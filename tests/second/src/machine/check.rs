@@ -20,9 +20,7 @@ struct Check<'c, 't> {
     uses: usize,
 }
 
-/// The nodes, then the commands, then refusal 9. There is no refusal 12: a
-/// child has a smaller number than its parent and there are at most 512
-/// nodes, so that no path downwards has more.
+/// The nodes, then the commands, then refusal 9.
 #[inline(always)]
 pub fn nodes_and_commands(
     layout: &Layout,
