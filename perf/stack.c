@@ -14,9 +14,9 @@ enum { NODES = 512, MEMORY = 64, LONGEST = 4, STACK = 1 << 17, FILLED = 0xa5 };
 
 /* ---- tables */
 
-/* One record of one int. Types: 2 int *, 3 record *. Variables: x, an int; p, an int *; q, a record *. */
-static const uint32_t declarations[] = {1, 1, 1, 0, 1, 2, 0, 65536, 3, 0, 2, 3};
-enum { X, P, Q, NONE, DECLARED = sizeof declarations / sizeof *declarations };
+/* One record of one int. Types: 0 int, 1 void *, 2 int *, 3 record *. Variables: x, an int; p, an int *; q, a record *; v, a void *. */
+static const uint32_t declarations[] = {1, 1, 1, 0, 1, 2, 0, 65536, 4, 0, 2, 3, 1};
+enum { X, P, Q, V, NONE, DECLARED = sizeof declarations / sizeof *declarations };
 
 struct table {
     uint32_t words[DECLARED + 1 + 3 * (NODES + 4) + 3];
@@ -60,7 +60,7 @@ static uint32_t over(struct table *t, char letter, uint32_t v) {
 }
 
 /* Makes the table whose path starts at a variable, or at a constant (NONE), and goes on by these letters again and again. Its command assigns the
-   path's value to a variable (endings X to Q), or to the path's place the value of a variable or a constant. Answers how many nodes the path has. */
+   path's value to a variable (endings X to V), or to the path's place the value of a variable or a constant. Answers how many nodes the path has. */
 static uint32_t make(struct table *t, uint32_t first, const char *letters, uint32_t ending) {
     uint32_t on_path = 1;
     memcpy(t->words, declarations, sizeof declarations);
@@ -98,12 +98,12 @@ __typeof__(mavistable_check) noted_check;
 __typeof__(mavistable_run) noted_run;
 __typeof__(mavistable_explain) noted_explain;
 
-static const uint32_t inputs[] = {7, 0, 0}, registers[] = {2, P, 2, 7, 7, Q, 2, 7, 7};
+static const uint32_t inputs[] = {7, 0, 0, 0}, registers[] = {2, P, 2, 7, 7, Q, 2, 7, 7};
 static uint32_t values[MEMORY], bases[MEMORY], ends[MEMORY];
 
 static void check(void) { noted_check(table.words, table.length); }
-static void run(void) { noted_run(table.words, table.length, inputs, 3, registers, 9, values, MEMORY, bases, MEMORY, ends, MEMORY); }
-static void explain(void) { noted_explain(table.words, table.length, inputs, 3, registers, 9, values, MEMORY, bases, MEMORY, ends, MEMORY); }
+static void run(void) { noted_run(table.words, table.length, inputs, NONE, registers, 9, values, MEMORY, bases, MEMORY, ends, MEMORY); }
+static void explain(void) { noted_explain(table.words, table.length, inputs, NONE, registers, 9, values, MEMORY, bases, MEMORY, ends, MEMORY); }
 
 /* How many bytes lie from the lowest one that a call wrote to its return address, which counts too. Arguments on the stack are the caller's. */
 static size_t taken(void (*call)(void)) {
@@ -165,6 +165,6 @@ int main(void) {
         search(first, letters, 0);
     printf("%u tables\n", tables);
     for (struct most *m = most; m < most + 3; m++)
-        printf("%s %zu bytes, a path of %u nodes: %c%s..\n", m->name, m->bytes, m->on_path, "xpq7"[m->first], m->letters);
+        printf("%s %zu bytes, a path of %u nodes: %c%s..\n", m->name, m->bytes, m->on_path, "xpqv7"[m->first], m->letters);
     return 0;
 }

@@ -6,7 +6,7 @@ use mathlib.Core.List.{List, [], _∷_, _++_}
 use lib.ListN.{length, take}
 use Rattle.semantics.specs.Words.{Words}
 use Rattle.semantics.specs.Check.{Verdict, passes, refused}
-use Rattle.semantics.specs.ExampleTables.{section, types, node, var, deref, num, sum, read, address, cast, assign}
+use Rattle.semantics.specs.ExampleTables.{section, of-type, types, node, var, deref, num, sum, read, address, cast, assign}
 use Rattle.semantics.proofs.Depth.{deeper, check-before}
 
 -- ---- the test by itself
@@ -98,8 +98,12 @@ verdicts-before =
     ∷ judges 4 (ints casts (assign 0 9 ∷ [])) (refused 7 (kind-at 5 + 2))
     ∷ judges 3 (ints casts []) (refused 12 (kind-at 4))
     ∷ judges 4 (ints casts []) (refused 9 (kind-at 0))
-    -- after the sections, after words over, and after the declarations
+    -- after the sections, after words over, and after the records, their sum, the fields, the pointers and the variables
     ∷ judges 3 (take (length three-casts - 1) three-casts) (refused 1 (length three-casts - 1))
     ∷ judges 3 (three-casts ++ (0 ∷ [])) (refused 2 (length three-casts))
+    ∷ judges 3 (types ([] ∷ []) [] (0 ∷ []) ++ section casts ++ section []) (refused 4 1)
+    ∷ judges 3 ((1 ∷ 1 ∷ 0 ∷ 0 ∷ 1 ∷ 0 ∷ []) ++ section casts ++ section []) (refused 4 2)
+    ∷ judges 3 (types ((of-type 9 1 ∷ []) ∷ []) [] (0 ∷ []) ++ section casts ++ section []) (refused 5 3)
+    ∷ judges 3 (types [] (9 ∷ []) (0 ∷ []) ++ section casts ++ section []) (refused 5 3)
     ∷ judges 3 (types [] [] (0 ∷ 9 ∷ []) ++ section casts ++ section []) (refused 5 5)
     ∷ []
