@@ -12,7 +12,7 @@ use Rattle.semantics.specs.Words.{Words}
 use Rattle.semantics.specs.Table.{records, fields, pointers, variables, nodes, commands, count, item-place, Sort, Operand, place-child, value-child, operand-a, operand-b, node-kind, node-a, node-b, child, children}
 use Rattle.semantics.specs.Check.{Verdict, passes, refused, _or-else_, require, each, section-fault, words-over, record-fault, field-sum-fault, field-fault, pointer-fault, variable-fault, is-child, operand-fault, node-fault, command-fault, use-fault, check}
 use Rattle.semantics.proofs.Tests.{and-true, and-both, or-true}
-use Rattle.semantics.proofs.Passed.{require-passes, each-passes, section-ok}
+use Rattle.semantics.proofs.Passed.{require-passes, each-passes, Passed, section-ok}
 use Rattle.semantics.proofs.Trees.{node-ok, is-child-true}
 use Rattle.semantics.proofs.Equations.{Children-before}
 
@@ -55,17 +55,22 @@ path-nodes {t} {n} pass (down {c = c} among path) =
 
 -- A table has come so far in the check that 12 was next for node n: its sections are not refused, and no node up to n is for what stood before 12.
 pub record Come-to (t : Words) (n : ℕ) : Type 0 where
-  pub sections : each 6 (section-fault t) ≡ passes
+  pub sections : (s : ℕ) → s < 6 → section-fault t s ≡ passes
   pub listed : n < count t nodes
   pub node-passes : Up-to t n
 
 -- "Nodes, at most 512"
-pub few-nodes : (t : Words) → each 6 (section-fault t) ≡ passes → count t nodes ≤ 512
-few-nodes t e = omega (arith, section-ok t 4 (each-passes 6 (section-fault t) e 4 (omega arith)) .limited)
+pub few-nodes : (t : Words) → section-fault t nodes ≡ passes → count t nodes ≤ 512
+few-nodes t e = omega (arith, section-ok t nodes e .limited)
 
 -- So no path from it has more than 512 nodes.
 pub no-path-is-longer : {t : Words} {n k : ℕ} → Come-to t n → Path t n k → k ≤ 512
-no-path-is-longer {t} h path = omega (arith, h .listed, few-nodes t (h .sections), path-nodes (h .node-passes) path)
+no-path-is-longer {t} h path = omega (arith, h .listed, few-nodes t (h .sections nodes (omega arith)), path-nodes (h .node-passes) path)
+
+-- Nor is there one in a table that passes. Evaluation goes down such paths, so this is how deep its calls can be.
+pub evaluation-depth : {t : Words} {n k : ℕ} → Passed t → n < count t nodes → Path t n k → k ≤ 512
+evaluation-depth passed less =
+    no-path-is-longer (record { sections = passed .types .sections; listed = less; node-passes = λ m h. passed .node-passes m (omega arith) })
 
 -- ---- the check as it was
 
@@ -98,12 +103,12 @@ check-before most t =
 
 -- ---- its test finds the paths with more nodes, and no others
 
-record Found (p : ℕ → Bool) (xs : Words) : Type 0 where
-  number : ℕ
-  among : List·Memᴰ number xs
-  holds : p number ≡ true
+pub record Found (p : ℕ → Bool) (xs : Words) : Type 0 where
+  pub number : ℕ
+  pub among : List·Memᴰ number xs
+  pub holds : p number ≡ true
 
-found : (p : ℕ → Bool) (xs : Words) → any-of p xs ≡ true → Found p xs
+pub found : (p : ℕ → Bool) (xs : Words) → any-of p xs ≡ true → Found p xs
 found p [] e = absurd (false≢true e)
 found p (x ∷ xs) e =
     ⊎-elim
@@ -164,7 +169,7 @@ module _ (t : Words) (sections : each 6 (section-fault t) ≡ passes) where
     where
       go : (b : Bool) → deeper t 512 n ≡ b → require (not b) 12 p ≡ passes
       go true e =
-          absurd (omega (arith, no-path-is-longer (record { sections = sections; listed = listed; node-passes = pass }) (deeper-has-path t 512 n e)))
+          absurd (omega (arith, no-path-is-longer (record { sections = each-passes 6 (section-fault t) sections; listed = listed; node-passes = pass }) (deeper-has-path t 512 n e)))
       go false e = refl
 
   node-same : (n : ℕ) → n < count t nodes → each n (node-fault t) ≡ passes → node-fault-before 512 t n ≡ node-fault t n

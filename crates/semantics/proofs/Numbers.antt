@@ -1,38 +1,43 @@
--- The numbers of the refusals. The check gives 1 to 9, a call also 10, 11 and 13 to 15. Request 7: 12 "isn't used again".
-use Prim.Native.Nat.{ℕ, zero, suc, _≤_}
-use mathlib.Core.Bool.{Bool, true, false, _&&_, _||_}
+-- The numbers of the refusals. Request 7: 12 "isn't used again".
+use Prim.Native.Nat.{ℕ, zero, suc}
+use mathlib.Core.Bool.{Bool, true, false, _||_, false≢true}
 use mathlib.Core.Path.{_≡_, refl}
-use mathlib.Core.Logic.{_⊎_, inl, inr, ⊎-elim}
+use mathlib.Core.List.{[], _∷_, _++_, map, List·Memᴰ}
 use native.Mathlib.Omega.{arith}
-use borrow.Author.Tests.{leb-true, le-leb}
-use lib.Dec.{leb}
+use borrow.Author.Tests.{eqb-true}
+use lib.Dec.{eqb}
+use lib.ListN.{length, replicate}
 use Rattle.semantics.specs.Words.{Words}
 use Rattle.semantics.specs.Table.{Operand, unused, variable-number, field-number, any-word, type-word, target-word, place-child, value-child, operand-a, operand-b, node-kind, node-a, node-b}
 use Rattle.semantics.specs.Check.{Verdict, passes, refused, _or-else_, require, each, section-fault, words-over, record-fault, field-sum-fault, field-fault, pointer-fault, variable-fault, operand-fault, node-fault, command-fault, use-fault, check, input-fault, arguments-fault, extent-fault, name-fault, room-fault, registers-fault, call-fault}
-use Rattle.semantics.proofs.Tests.{and-true, and-both, or-true}
+use Rattle.semantics.specs.Run.{Answer, refusal, ending}
+use Rattle.semantics.specs.ExampleTables.{Judgement, Example}
+use Rattle.semantics.specs.Examples.{verdicts, refusals, refused-lists}
+use Rattle.semantics.proofs.Depth.{any-of, found}
 
--- a to b
-abbrev from-to : ℕ → ℕ → ℕ → Bool
-from-to a b n = leb a n && leb n b
+-- "The check alone gives 1 to 9 .. or passes."
+abbrev pub of-check : Words
+of-check = 1 ∷ 2 ∷ 3 ∷ 4 ∷ 5 ∷ 6 ∷ 7 ∷ 8 ∷ 9 ∷ []
 
-within : {a b n : ℕ} → from-to a b n ≡ true → (a ≤ n) × (n ≤ b)
-within {a} {b} {n} e = let p = and-true (leb a n) (leb n b) e in (leb-true a n (p .0), leb-true n b (p .1))
+-- What a call gives beside them, for its lists, its inputs and its registers.
+abbrev pub of-arguments : Words
+of-arguments = 10 ∷ 11 ∷ 13 ∷ 14 ∷ 15 ∷ []
 
-abbrev of-check : ℕ → Bool
-of-check n = from-to 1 9 n
+abbrev pub of-call : Words
+of-call = of-check ++ of-arguments
 
-abbrev of-call : ℕ → Bool
-of-call n = from-to 1 11 n || from-to 13 15 n
+abbrev listed : Words → ℕ → Bool
+listed numbers n = any-of (eqb n) numbers
 
 -- If v is a refusal, its number is one of these.
-record Numbered (numbers : ℕ → Bool) (v : Verdict) : Type 0 where
-  number : {n p : ℕ} → v ≡ refused n p → numbers n ≡ true
+record Numbered (numbers : Words) (v : Verdict) : Type 0 where
+  number : {n p : ℕ} → v ≡ refused n p → listed numbers n ≡ true
 
-module _ {numbers : ℕ → Bool} where
+module _ {numbers : Words} where
   passes-so : Numbered numbers passes
   passes-so = record { number = λ e. let z : _≡_ {A = ℕ} 0 1 = cc in absurd (omega arith) }
 
-  refused-so : (n p : ℕ) → numbers n ≡ true → Numbered numbers (refused n p)
+  refused-so : (n p : ℕ) → listed numbers n ≡ true → Numbered numbers (refused n p)
   refused-so n p h = record { number = λ {n = m} e. let same : m ≡ n = cc in rw same h }
 
   or-else-so : (u : Verdict) {v : Verdict} → Numbered numbers u → Numbered numbers v → Numbered numbers (u or-else v)
@@ -40,7 +45,7 @@ module _ {numbers : ℕ → Bool} where
   or-else-so passes h g = g
   or-else-so (refused n p) h g = h
 
-  require-so : (b : Bool) (n p : ℕ) → numbers n ≡ true → Numbered numbers (require b n p)
+  require-so : (b : Bool) (n p : ℕ) → listed numbers n ≡ true → Numbered numbers (require b n p)
   unfolding require
   require-so true n p h = passes-so
   require-so false n p h = refused-so n p h
@@ -82,10 +87,15 @@ check-so t =
 
 -- A number of the check is one of a call.
 of-both : {v : Verdict} → Numbered of-check v → Numbered of-call v
-of-both h = record { number = λ {n} e. let p = within {a = 1} {b = 9} {n = n} (h .number e) in early n (p .0) (p .1) }
+of-both h = record { number = λ {n} e. more n of-check of-arguments (h .number e) }
   where
-    early : (n : ℕ) → 1 ≤ n → n ≤ 9 → of-call n ≡ true
-    early n some few = rw (and-both (leb 1 n) (leb n 11) (le-leb 1 n some) (le-leb n 11 (omega arith)))
+    more : (n : ℕ) (xs ys : Words) → listed xs n ≡ true → listed (xs ++ ys) n ≡ true
+    more n [] ys e = absurd (false≢true e)
+    more n (x ∷ xs) ys e = go (eqb n x) e (more n xs ys)
+      where
+        go : (b : Bool) {c d : Bool} → b || c ≡ true → (c ≡ true → d ≡ true) → b || d ≡ true
+        go true e step = refl
+        go false e step = step e
 
 call-so : (t inputs registers : Words) (values bases ends : ℕ) → Numbered of-call (call-fault t inputs registers values bases ends)
 unfolding call-fault arguments-fault input-fault registers-fault extent-fault name-fault room-fault
@@ -95,12 +105,29 @@ call-so t inputs registers values bases ends =
     (or-else-so _ (or-else-so _ (require-so _ 13 _ refl) (or-else-so _ (require-so _ 13 _ refl) (require-so _ 13 _ refl)))
     (or-else-so _ (each-so _ (λ i. require-so _ 14 _ refl)) (each-so _ (λ i. require-so _ 15 _ refl)))))
 
--- "The check alone gives 1 to 9 .. or passes."
-pub check-numbers : (t : Words) (n p : ℕ) → check t ≡ refused n p → (1 ≤ n) × (n ≤ 9)
-check-numbers t n p e = within (check-so t .number e)
+member : {n : ℕ} (numbers : Words) → listed numbers n ≡ true → List·Memᴰ n numbers
+member {n} numbers e = let f = found (eqb n) numbers e in rw (eqb-true n (f .number) (f .holds)) (f .among)
 
--- A call gives 1 to 15 without 12.
-pub call-numbers : (t inputs registers : Words) (values bases ends n p : ℕ) → call-fault t inputs registers values bases ends ≡ refused n p
-    → ((1 ≤ n) × (n ≤ 11)) ⊎ ((13 ≤ n) × (n ≤ 15))
-call-numbers t inputs registers values bases ends n p e =
-    ⊎-elim (λ h. inl (within h)) (λ h. inr (within h)) (or-true (from-to 1 11 n) (from-to 13 15 n) (call-so t inputs registers values bases ends .number e))
+-- No other number is given,
+pub check-numbers : (t : Words) (n p : ℕ) → check t ≡ refused n p → List·Memᴰ n of-check
+check-numbers t n p e = member of-check (check-so t .number e)
+
+pub call-numbers : (t inputs registers : Words) (values bases ends n p : ℕ) → call-fault t inputs registers values bases ends ≡ refused n p → List·Memᴰ n of-call
+call-numbers t inputs registers values bases ends n p e = member of-call (call-so t inputs registers values bases ends .number e)
+
+-- and each of them is, in the examples that Examples.antt computes.
+abbrev number-judged : Verdict → ℕ
+number-judged passes = 0
+number-judged (refused n p) = n
+
+abbrev number-answered : Answer → ℕ
+number-answered (refusal n p) = n
+number-answered (ending e u) = 0
+
+pub check-gives-each : map (λ (x : Judgement). number-judged (x .verdict)) verdicts ≡ of-check
+unfolding verdicts
+check-gives-each = refl
+
+pub call-gives-each : map (listed (map (λ (x : Example). number-answered (x .result .answer)) (refusals ++ refused-lists))) of-call ≡ replicate (length of-call) true
+unfolding refusals refused-lists
+call-gives-each = refl
