@@ -1,4 +1,4 @@
-"""How much stack the calls take at the deepest tables is what the header says."""
+"""How much stack the calls take at the deepest tables is what the header says, and they can't take more than it promises."""
 import re
 import subprocess
 import unittest
@@ -6,21 +6,21 @@ import unittest
 from programs import ROOT
 
 CALLS = "check", "run", "explain"
+ENOUGH = r"Stack: (\d+) KiB are enough for mavistable_check, (\d+) KiB for mavistable_run and (\d+) KiB for mavistable_explain"
+TOOK = r"On x86-64 they took ([\d,]+), ([\d,]+) and ([\d,]+) bytes"
 
 
-def number(text):
-    return int(text.replace(",", ""))
+def numbers(pattern, text):
+    return [int(number.replace(",", "")) for number in re.search(pattern, text).groups()]
 
 
 class Stack(unittest.TestCase):
     def test_header(self):
-        told = " ".join((ROOT / "include" / "mavistable.h").read_text().split())
-        enough = r"Stack: (\d+) KiB are enough for mavistable_check, (\d+) KiB for mavistable_run and (\d+) KiB for mavistable_explain"
-        took = r"On x86-64 they took ([\d,]+), ([\d,]+) and ([\d,]+) bytes"
-        room = [1024 * int(kib) for kib in re.search(enough, told).groups()]
-        bytes_told = [number(count) for count in re.search(took, told).groups()]
-        measured = subprocess.run([ROOT / "perf" / "stack"], check=True, capture_output=True, text=True).stdout
-        found = [number(re.search(rf"^{call} (\d+) bytes", measured, re.M)[1]) for call in CALLS]
-        self.assertEqual(found, bytes_told, measured)
-        for needs, has in zip(found, room):
-            self.assertLess(needs, has)
+        header = " ".join((ROOT / "include" / "mavistable.h").read_text().split())
+        found = subprocess.run([ROOT / "perf" / "stack"], check=True, capture_output=True, text=True).stdout
+        taken = [numbers(rf"(?m)^{call} (\d+) bytes", found)[0] for call in CALLS]
+        most = [numbers(rf"(?m)^{call} at most (\d+)$", found)[0] for call in CALLS]
+        self.assertEqual(taken, numbers(TOOK, header), found)
+        for least, call, kib in zip(taken, most, numbers(ENOUGH, header)):
+            self.assertLessEqual(least, call)
+            self.assertLessEqual(call, 1024 * kib)
