@@ -21,6 +21,6 @@ class Stack(unittest.TestCase):
         taken = [numbers(rf"(?m)^{call} (\d+) bytes", found)[0] for call in CALLS]
         most = [numbers(rf"(?m)^{call} at most (\d+)$", found)[0] for call in CALLS]
         self.assertEqual(taken, numbers(TOOK, header), found)
-        for least, call, kib in zip(taken, most, numbers(ENOUGH, header)):
-            self.assertLessEqual(least, call)
-            self.assertLessEqual(call, 1024 * kib)
+        for took, at_most, kib in zip(taken, most, numbers(ENOUGH, header)):
+            self.assertLessEqual(took, at_most)
+            self.assertLessEqual(at_most, 1024 * kib)
