@@ -10,7 +10,7 @@
 #include "mavistable.h"
 
 /* The limits of the bench program. A list of registers may be of any length: one that does not fit in the memory is refused. */
-enum { MEMORY = 4096, INPUTS = 64, TABLE = 2470 };
+enum { MEMORY = 4096, INPUTS = 64, TABLE = 2472 };
 
 static uint32_t values[MEMORY], bases[MEMORY], ends[MEMORY];
 

@@ -17,7 +17,7 @@ extern "C" {
 /* The verdict on a table. */
 struct mavistable_verdict {
     uint32_t refused; /* 0: the table passes; 1: it is refused */
-    uint32_t number;  /* refused: the number of the refusal, 1 to 9; else 0 */
+    uint32_t number;  /* refused: the number of the refusal, 1 to 9 or 16; else 0 */
     size_t place;     /* refused: the place of the word at fault; else 0 */
 };
 
@@ -31,7 +31,7 @@ enum mavistable_ending {
 /* How a call ended. What an ending does not tell is 0. */
 struct mavistable_answer {
     uint32_t ending;  /* one of enum mavistable_ending */
-    uint32_t number;  /* refused: the number of the refusal, 1 to 11 or 13 to 15 */
+    uint32_t number;  /* refused: the number of the refusal, 1 to 11 or 13 to 16 */
     size_t place;     /* refused: its place */
     uint32_t command; /* abort, no room: the number of the command, from 0 */
     uint32_t unused;  /* done, abort, no room: the first word of the lists that was never handed out */
@@ -71,6 +71,7 @@ struct mavistable_verdict mavistable_check(const uint32_t *table, size_t length)
    and n words. Each becomes a block of memory after the variables, and its variable starts at it, with its bounds; with n = 0 it
    starts as 0. Without registers the list is the one word 0. What the routine leaves of a register stands in values.
    A number n added to a pointer to a record moves it by n records; added to anything else it counts words. Both wrap at 32 bits.
+   A table that starts with the words 4294967295 and 2 is of edition 2, in which ints have bounds too (docs/TABLE.md, Editions).
    The caller owes: each pointer points to as many words as its length says (readable; those of the three lists writable too),
    none is NULL, and no list of the three overlaps another one or the table, the inputs or the registers. */
 struct mavistable_answer mavistable_run(const uint32_t *table, size_t table_length, const uint32_t *inputs, size_t input_count,

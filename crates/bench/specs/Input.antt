@@ -27,5 +27,5 @@ pub record Read (list : List ℕ) (s : Scanner) : Type 0 where
 -- for the text that was read.
 pub record Answers-input (numbers values bases ends out out′ : List ℕ) (r : Output) : Type 0 where
   pub text : List ℕ
-  pub prints : 2536 ≤ length numbers → has-room (length values) (length bases) (length ends) (length out) ≡ true
+  pub prints : 2538 ≤ length numbers → has-room (length values) (length bases) (length ends) (length out) ≡ true
       → (r ≡ Printed (length (output-of text))) × (out′ ≡ over (output-of text) out)

@@ -61,8 +61,8 @@ fn answer_input(
 }
 
 fn main() {
-    // Room for a memory length, an input count, 64 inputs and a table of 2,470 words.
-    let mut numbers = [0u32; 2536];
+    // Room for a memory length, an input count, 64 inputs and a table of 2,472 words.
+    let mut numbers = [0u32; 2538];
     let mut values = [0u32; 4096];
     let mut bases = [0u32; 4096];
     let mut ends = [0u32; 4096];

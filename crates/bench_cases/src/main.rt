@@ -59,7 +59,7 @@ fn answer_all(
 fn main() {
     // So few bytes that texts are cut in many places.
     let mut buffer = [0u8; 61];
-    let mut numbers = [0u32; 2536];
+    let mut numbers = [0u32; 2538];
     let mut values = [0u32; 4096];
     let mut bases = [0u32; 4096];
     let mut ends = [0u32; 4096];

@@ -20,7 +20,7 @@ use Rattle.semantics.proofs.Steps.{place-good, value-good}
 use Rattle.semantics.proofs.Starts.{start-beside}
 use Rattle.steps.specs.Answers.{base-slot, end-slot, unused-slot, failed, state-of, Datum-is, Place-is, Stands, Answers, answers-ok}
 use Rattle.steps.proofs.Finish.{passed-on, touched, watches-on, all-kept}
-use Rattle.lookups.proofs.Lookups.{noted-type}
+use Rattle.lookups.proofs.Lookups.{noted-bounds}
 use Rattle.evaluator.specs.Result.{Place-ready, Value-ready, Value-answered, Assigned-answered}
 use Rattle.evaluator.proofs.Outcomes.{Worked-out, worked-out}
 use Rattle.commands.specs.Command.{Command-nodes, Command-ready, Stored, Done-is, Command-answered}
@@ -117,22 +117,22 @@ module _ {l m m₁ : List Words} {p v at : ℕ} {s s₁ : Words} (place : Assign
       block-kept : (at : ℕ) (a : Access) (log : List Event) (w : ℕ) → block-start (stored at a ∷ log) w ≡ block-start log w
       block-kept at a log w = start-beside (stored at a) log w (stored-no-block at a)
 
-      pub command-done : {m₃ : List Words} {ty b e : ℕ} → r < failed → ty ≡ word (column l 1) v % 128 → b ≡ word s₂ base-slot → e ≡ word s₂ end-slot → Stored ty at r b e m₂ m₃
+      pub command-done : {m₃ : List Words} {y b e : ℕ} → r < failed → y ≡ word (column l 1) v % 256 → b ≡ word s₂ base-slot → e ≡ word s₂ end-slot → Stored y at r b e m₂ m₃
           → Command-answered l m p v s 0 m₃ s₂
       unfolding assign assign-step touchable
-      command-done {m₃} {ty} {b} {e} small ht hb he st =
+      command-done {m₃} {y} {b} {e} small ht hb he st =
           record {
             room = value .room;
             meets = λ t vars w log st₀ k.
                 let one = first small st₀ k in
                 let two = second small st₀ k in
-                rw (one .outcome, two .outcome) (stores (one .result) (two .result) (two .log) (noted-type (k .lists-of) (k .value-node) ht .0) (one .is .at) (two .is) (two .stands) (still small st₀ k));
+                rw (one .outcome, two .outcome) (stores (one .result) (two .result) (two .log) (noted-bounds (k .lists-of) (k .value-node) ht) (one .is .at) (two .is) (two .stands) (still small st₀ k));
           }
         where
-          stores : {vars w ty′ : ℕ} (x : Location) (d : Datum) (log : List Event) → ty ≡ ty′ → x .at ≡ at → Datum-is d r s₂ → Stands vars w m₂ s₂ log
-              → Location-ok vars x (state-of m₂ (word s₂ unused-slot) log) → Answers Done-is w m₃ 0 s₂ (assign-step (is-pointer ty′) x d (state-of m₂ (word s₂ unused-slot) log))
+          stores : {vars w : ℕ} {bounds : Bool} (x : Location) (d : Datum) (log : List Event) → is-pointer y ≡ bounds → x .at ≡ at → Datum-is d r s₂ → Stands vars w m₂ s₂ log
+              → Location-ok vars x (state-of m₂ (word s₂ unused-slot) log) → Answers Done-is w m₃ 0 s₂ (assign-step bounds x d (state-of m₂ (word s₂ unused-slot) log))
           stores {w = w} x d log same hx hd here fine =
               let t = touched (here .inv) fine hx in
               let long : length (column m₃ 0) ≡ length (column m₂ 0) = ap length (st .values) ∙ length-set (column m₂ 0) at r in
-              rw (← same, hx, lt-ltb 0 at (t .0), lt-ltb at (word s₂ unused-slot) (t .1), stored-state m₂ m₃ (is-pointer ty) at (word s₂ unused-slot) d (stored at (x .access)) log (hd .value) (hd .base ∙ sym hb) (hd .end ∙ sym he) (st .values) (st .bases) (st .ends))
+              rw (← same, hx, lt-ltb 0 at (t .0), lt-ltb at (word s₂ unused-slot) (t .1), stored-state m₂ m₃ (is-pointer y) at (word s₂ unused-slot) d (stored at (x .access)) log (hd .value) (hd .base ∙ sym hb) (hd .end ∙ sym he) (st .values) (st .bases) (st .ends))
               (answers-ok tt (stored at (x .access) ∷ log) (record { zero = refl }) (omega arith) (rw long (watches-on (all-kept s₂) (block-kept at (x .access) log w) (here .watches))))

@@ -8,9 +8,9 @@ use native.Mathlib.Numerals.{add-one}
 use native.Mathlib.Decide.{ℕ-discrete}
 use lib.ListN.{length}
 use Rattle.semantics.specs.Words.{Words, word}
-use Rattle.semantics.specs.Table.{variables, commands, count-place, count, item-place, item, is-pointer, node-type}
+use Rattle.semantics.specs.Table.{edition, variables, commands, count-place, count, item-place, item, node-type}
 use Rattle.semantics.specs.Check.{command-place, command-value}
-use Rattle.semantics.specs.Syntax.{place-of, value-of}
+use Rattle.semantics.specs.Syntax.{moves-bounds, place-of, value-of}
 use Rattle.semantics.specs.Rules.{Event, State, Outcome, assign}
 use Rattle.semantics.specs.Run.{command, Ending, done, abort, out-of-memory, stuck, ended, after-command, then-command, commands-below, ending}
 use Rattle.semantics.specs.Explain.{block-start}
@@ -137,7 +137,7 @@ module _ {t : Words} {l m₀ : List Words} {at total u₀ w : ℕ} (x : Executab
         module _ {log : List Event} (inv : Starts t m₀ u₀ log) where
           -- The outcome of command c.
           abbrev result : Outcome (Unit {0})
-          result = assign (is-pointer (node-type t v)) (place-of t p) (value-of t v) (state-of m (word s unused-slot) (log-here inv))
+          result = assign (moves-bounds (edition t) (node-type t v)) (place-of t p) (value-of t v) (state-of m (word s unused-slot) (log-here inv))
 
           this-command : commands-below t (suc c) (state-of m₀ u₀ log) ≡ after-command c result
           unfolding commands-below command

@@ -5,8 +5,8 @@ use mathlib.Core.List.{List, [], _∷_}
 use lib.ListN.{length, set}
 use Rattle.words.specs.Columns.{column}
 use Rattle.semantics.specs.Words.{Words, word, if_then_else_}
-use Rattle.semantics.specs.Table.{nodes, count, is-pointer, node-type}
-use Rattle.semantics.specs.Syntax.{place-of, value-of}
+use Rattle.semantics.specs.Table.{edition, nodes, count, is-pointer, node-type}
+use Rattle.semantics.specs.Syntax.{moves-bounds, place-of, value-of}
 use Rattle.semantics.specs.Rules.{Event, assign}
 use Rattle.semantics.proofs.Steps.{Place-ok, Value-ok}
 use Rattle.lookups.specs.Lists.{Lists}
@@ -32,11 +32,11 @@ pub record Command-ready (l m : List Words) (p v : ℕ) (s : Words) : Type 0 whe
   pub state : Ready m s
   pub nodes-are : Command-nodes table l p v (state .vars)
 
--- The lists after a store at word w: base and end only where the type is a pointer's.
-pub record Stored (pointer w v b e : ℕ) (m m′ : List Words) : Type 0 where
+-- The lists after a store at word w: base and end only where `bounds` is not 0.
+pub record Stored (bounds w v b e : ℕ) (m m′ : List Words) : Type 0 where
   pub values : column m′ 0 ≡ set (column m 0) w v
-  pub bases : column m′ 1 ≡ (if is-pointer pointer then set (column m 1) w b else column m 1)
-  pub ends : column m′ 2 ≡ (if is-pointer pointer then set (column m 2) w e else column m 2)
+  pub bases : column m′ 1 ≡ (if is-pointer bounds then set (column m 1) w b else column m 1)
+  pub ends : column m′ 2 ≡ (if is-pointer bounds then set (column m 2) w e else column m 2)
 
 -- A command that is done answers 0.
 pub record Done-is (x : Unit {0}) (r : ℕ) (s : Words) : Type 0 where
@@ -46,4 +46,4 @@ pub record Done-is (x : Unit {0}) (r : ℕ) (s : Words) : Type 0 where
 pub record Command-answered (l m : List Words) (p v : ℕ) (s : Words) (r : ℕ) (m′ : List Words) (s′ : Words) : Type 0 where
   pub room : length s′ ≡ slots
   pub meets : (t : Words) (vars w : ℕ) (log : List Event) → Stands vars w m s log → Command-nodes t l p v vars
-      → Answers Done-is w m′ r s′ (assign (is-pointer (node-type t v)) (place-of t p) (value-of t v) (state-of m (word s unused-slot) log))
+      → Answers Done-is w m′ r s′ (assign (moves-bounds (edition t) (node-type t v)) (place-of t p) (value-of t v) (state-of m (word s unused-slot) log))

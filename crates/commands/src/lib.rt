@@ -10,7 +10,7 @@ ghost use Rattle.commands.specs.Execution.{Executable, Executed};
 use evaluator::assigned;
 use evaluator::result;
 use lookups::Lists;
-use lookups::type_of;
+use lookups::bounds_of;
 use steps::BASE;
 use steps::BASES;
 use steps::END;
@@ -32,13 +32,13 @@ pub enum Ended {
     NoRoom(u32, u32),
 }
 
-// Stores a value, and its bounds where its type is a pointer's.
-fn store(m: &mut Memory, at: usize, pointer: u32, v: u32, base: u32, end: u32)
+// Stores a value, and its bounds unless `bounds` is 0.
+fn store(m: &mut Memory, at: usize, bounds: u32, v: u32, base: u32, end: u32)
     requires { ⌜ (at < 2 ^ 32) × (at < length (column (map (λ x. now x) (now m)) 0)) × (at < length (column (map (λ x. now x) (now m)) 1)) × (at < length (column (map (λ x. now x) (now m)) 2)) ⌝ }
-    ensures { λ r. ⌜ (Stored pointer at v base end (map (λ x. now x) (now (m .entry))) (map (λ x. now x) (now (m .exit)))) × (map (λ x. name x) (now (m .exit)) ≡ map (λ x. name x) (now (m .entry))) ⌝ }
+    ensures { λ r. ⌜ (Stored bounds at v base end (map (λ x. now x) (now (m .entry))) (map (λ x. now x) (now (m .exit)))) × (map (λ x. name x) (now (m .exit)) ≡ map (λ x. name x) (now (m .entry))) ⌝ }
 {
     m[VALUES][at] = v;
-    if pointer == 0 {
+    if bounds == 0 {
         return;
     }
     m[BASES][at] = base;
@@ -55,12 +55,12 @@ fn command(l: &Lists, m: &mut Memory, p: usize, v: usize, s: &mut Slots) -> u64
         return at;
     }
     // Before the value, which can write to memory: the compiler then reads the note once, here and in `result`.
-    let of = type_of(l, v);
+    let bounds = bounds_of(l, v);
     let r = result(l, m, v, s);
     if FAILED <= r {
         return r;
     }
-    store(m, index(low(at)), of, low(r), s[BASE], s[END]);
+    store(m, index(low(at)), bounds, low(r), s[BASE], s[END]);
     0
 }
 

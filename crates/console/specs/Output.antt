@@ -112,7 +112,7 @@ answered s numbers l out =
 pub record Answers (s : Scanner) (numbers : Words) (l : Lists) (out : List ℕ) (numbers′ : Words) (l′ : Lists) (out′ : List ℕ) (r : Output) : Type 0 where
   pub does : outcome r numbers′ l′ out′ ≡ answered s numbers l out
   -- After a text has been scanned: what stands in the output is what the bench program prints for this text.
-  pub meets : (text : List ℕ) → Scanned text numbers s → 2536 ≤ length numbers
+  pub meets : (text : List ℕ) → Scanned text numbers s → 2538 ≤ length numbers
       → has-room (length (l .values)) (length (l .bases)) (length (l .ends)) (length out) ≡ true
       → (r ≡ Printed (length (output-of text))) × (out′ ≡ over (output-of text) out)
 

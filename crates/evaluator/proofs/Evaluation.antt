@@ -8,20 +8,35 @@ use borrow.Author.Tests.{leb-false}
 use lib.ListN.{length}
 use Rattle.words.specs.Columns.{column}
 use Rattle.semantics.specs.Words.{Words, word}
-use Rattle.semantics.specs.Table.{nodes, count, is-pointer, known-type, known-target, size-of, constant, kind-of, node-kind, node-a, node-b, node-type}
-use Rattle.semantics.specs.Syntax.{value-of, step-of}
+use Rattle.semantics.specs.Table.{Edition, edition-1, edition-2, edition, nodes, count, is-pointer, known-type, known-target, size-of, constant, kind-of, node-kind, node-a, node-b, node-type}
+use Rattle.semantics.specs.Syntax.{value-of, step-of, moves-bounds, keeps-bounds, either-bounds}
 use Rattle.semantics.specs.Rules.{Datum, Location, Event, State, Outcome, ok, fails, no-room, no-rule, unbounded, bind, variable-location, deref-step, field-step, read-step, address-step, cast-step, malloc-step, place-at, value-at}
-use Rattle.semantics.proofs.Ints.{cast-of-int}
+use Rattle.semantics.specs.Safety.{Sound, absent, held}
+use Rattle.semantics.proofs.Ints.{cast-of-int, sum-of-int, sum-of-number}
 use Rattle.semantics.proofs.Invariant.{Inv, sound-later, Datum-ok, Good, good-ok, good-fails, good-no-room}
 use Rattle.semantics.proofs.Steps.{Value-ok, place-good, value-good}
-use Rattle.lookups.specs.Lists.{part, to-int-from-pointer, Lists, Field-node, Known-word}
+use Rattle.lookups.specs.Lists.{part, drops-bounds, tracked-by-type, Lists, Field-node, Known-word}
 use Rattle.steps.specs.Answers.{slots, base-slot, end-slot, unused-slot, failed, state-of, Datum-is, Location-is, Stands, Answers, answers-ok, answers-failed, answers-full, Given, Finishes, Deref-finishes, Field-finishes, Sum-finishes, Load-finishes, Cast-finishes, Malloc-finishes, Both-ok, Copy-finishes}
 use Rattle.evaluator.specs.Result.{Node-answered, Place-answered, Value-answered}
 use Rattle.steps.proofs.Finish.{passed-on, given-ok, watches-on}
-use Rattle.lookups.proofs.Lookups.{noted-type}
-use Rattle.evaluator.proofs.Nodes.{value-node, offset-of, count-of, constant-node, size-node, variable-node, deref-node, field-node, read-node, address-node, cast-node, malloc-node, Binary, sums, copies, operates, binary-node}
+use Rattle.lookups.proofs.Lookups.{noted-type, noted-bounds, noted-by-type}
+use Rattle.evaluator.proofs.Nodes.{value-node, offset-of, count-of, constant-node, size-node, variable-node, deref-node, field-node, read-node, address-node, cast-node, malloc-node, Binary, sums, copies, operates, binary-node, sum-adds-int}
 use Rattle.evaluator.proofs.Outcomes.{worked-out, weakened, number-of, place-only}
 use Rattle.evaluator.proofs.Ready.{kind-is, a-is, b-is, size-known, read-type}
+
+all-kept : (o : Outcome Datum) → bind o (cast-step true) ≡ o
+all-kept (ok x s) = refl
+all-kept (fails x s) = refl
+all-kept (no-room s) = refl
+all-kept (no-rule s) = refl
+
+-- Bounds that are absent or held have no base where they have no end.
+no-base : {vars : ℕ} {x : Datum} {st : State} → Datum-ok vars x st → x .end ≡ 0 → x .base ≡ 0
+no-base {x = x} fine none = go (fine .sound)
+  where
+    go : {vars : ℕ} {log : List Event} → Sound vars log (x .base) (x .end) → x .base ≡ 0
+    go (absent b e) = b
+    go (held h) = absurd (omega (arith, h .proper))
 
 -- A node that is a step from its child a, a value or a place: good says that the child's outcome is.
 from : {A B : Type 0} {IsA Child : A → ℕ → Words → Type 0} {Is : B → ℕ → Words → Type 0} {Ok : ℕ → A → State → Type 0} {TreeA Tree : ℕ → Words → Type 0} {child-outcome : Words → State → Outcome A}
@@ -49,31 +64,40 @@ from-none made room =
           rw (q .1 _) (given-ok (q .0) log (q .2 .is) (q .2 .small) (q .2 .kept .unused) (watches-on (q .2 .kept) refl (st .watches)));
     }
 
--- What a cast does, from whether its operand and its type are pointers.
-to-int : (from to : Bool) → not to && from ≡ true → from && to ≡ false
-to-int true true h = absurd (false≢true h)
-to-int true false h = refl
-to-int false true h = refl
-to-int false false h = refl
+-- ---- what a cast does, by the table's types
 
-kept : (from to : Bool) {o : Outcome Datum} → not to && from ≡ false → (from ≡ false → bind o (cast-step false) ≡ o) → bind o (cast-step (from && to)) ≡ o
-kept true true {o} h int = all o
+-- A cast to int, of a pointer whose bounds go by its type.
+to-int : (e : Edition) (from to : ℕ) → not (is-pointer to) && tracked-by-type e from ≡ true → keeps-bounds e from to ≡ false
+to-int edition-1 from to h = go (is-pointer from) (is-pointer to) h
   where
-    all : (o : Outcome Datum) → bind o (cast-step true) ≡ o
-    all (ok x s) = refl
-    all (fails x s) = refl
-    all (no-room s) = refl
-    all (no-rule s) = refl
-kept true false h int = absurd (false≢true (sym h))
-kept false true h int = int refl
-kept false false h int = int refl
+    go : (from to : Bool) → not to && from ≡ true → from && to ≡ false
+    go true true h = absurd (false≢true h)
+    go true false h = refl
+    go false true h = refl
+    go false false h = refl
+to-int edition-2 from to h = go (is-pointer to) h
+  where
+    go : (to : Bool) → not to && false ≡ true → true ≡ false
+    go true h = absurd (false≢true h)
+    go false h = absurd (false≢true h)
 
--- Whether a cast drops bounds, by the table's types.
-by-types : {t : Words} {l : List Words} {n : ℕ} {f : Bool} → Lists t l → n < count t nodes → node-a t n < n → f ≡ to-int-from-pointer l n
-    → f ≡ not (is-pointer (node-b t n)) && is-pointer (node-type t (node-a t n))
+-- Any other: an int has no bounds to drop.
+kept : (e : Edition) (from to : ℕ) {o : Outcome Datum} → not (is-pointer to) && tracked-by-type e from ≡ false
+    → (e ≡ edition-1 → is-pointer from ≡ false → bind o (cast-step false) ≡ o) → bind o (cast-step (keeps-bounds e from to)) ≡ o
+kept edition-1 from to {o} h int = go (is-pointer from) (is-pointer to) h (int refl)
+  where
+    go : (from to : Bool) → not to && from ≡ false → (from ≡ false → bind o (cast-step false) ≡ o) → bind o (cast-step (from && to)) ≡ o
+    go true true h int = all-kept o
+    go true false h int = absurd (false≢true (sym h))
+    go false true h int = int refl
+    go false false h int = int refl
+kept edition-2 from to {o} h int = all-kept o
+
+by-types : {t : Words} {l : List Words} {n : ℕ} {f : Bool} → Lists t l → n < count t nodes → node-a t n < n → f ≡ drops-bounds l n
+    → f ≡ not (is-pointer (node-b t n)) && tracked-by-type (edition t) (node-type t (node-a t n))
 by-types {t} lists node less hf =
     let p′ = a-is lists node refl in
-    hf ∙ ap₂ (λ b y. not (is-pointer b) && is-pointer y) (b-is lists node refl) (noted-type lists (omega (arith, less, p′)) refl .0 ∙ ap (node-type t) p′)
+    hf ∙ ap₂ (λ b y. not (is-pointer b) && y) (b-is lists node refl) (noted-by-type lists (omega (arith, less, p′)) refl ∙ ap (λ x. tracked-by-type (edition t) (node-type t x)) p′)
 
 no-pointer : {y : ℕ} → is-pointer y ≡ false → y ≡ 0
 unfolding is-pointer
@@ -119,7 +143,7 @@ module _ {l m : List Words} {n : ℕ} {s : Words} {k a : ℕ} (e : k ≡ part l 
       (unbounded (size-of t a), (λ st. rw (size-node t n i, ← p′)), given t (record { lists = lists; known = rw p′ (size-known t n i lists node) })))
       room
 
-  pub read-answer : {y at r : ℕ} {m′ : List Words} {s₁ s₂ : Words} → k ≡ 6 → y ≡ word (column l 1) a % 128 → Place-answered l m a s at m′ s₁ → Load-finishes y m′ at s₁ r s₂ → Value-answered l m n s r m′ s₂
+  pub read-answer : {y at r : ℕ} {m′ : List Words} {s₁ s₂ : Words} → k ≡ 6 → y ≡ word (column l 1) a % 256 → Place-answered l m a s at m′ s₁ → Load-finishes y m′ at s₁ r s₂ → Value-answered l m n s r m′ s₂
   unfolding place-at kind-of
   read-answer {y} q hy child finish =
       from (read-step (is-pointer y)) (λ vars len t st tree inv. place-good tree st inv) place-only
@@ -128,7 +152,7 @@ module _ {l m : List Words} {n : ℕ} {s : Words} {k a : ℕ} (e : k ≡ part l 
       let nd = read-node t n i h in
       let p′ = a-is lists node p in
       let less = nd .0 .less in
-      let y′ : y ≡ node-type t n = noted-type lists (omega (arith, less, p′)) hy .0 ∙ rw p′ (sym (read-type t n i less)) in
+      let y′ : is-pointer y ≡ moves-bounds (edition t) (node-type t n) = noted-bounds lists (omega (arith, less, p′)) hy ∙ ap (moves-bounds (edition t)) (rw p′ (sym (read-type t n i less))) in
       (rw p′ less, rw p′ (nd .0 .tree), λ st. rw (nd .1, y′, p′)))
       child finish
 
@@ -148,8 +172,8 @@ module _ {l m : List Words} {n : ℕ} {s : Words} {k a : ℕ} (e : k ≡ part l 
       handed (answers-failed log i watch) = answers-failed log i watch
       handed (answers-full log i) = answers-full log i
 
-  module _ {f : Bool} (q : k ≡ 8) (hf : f ≡ to-int-from-pointer l n) where
-    -- A cast from pointer to int drops bounds.
+  module _ {f : Bool} (q : k ≡ 8) (hf : f ≡ drops-bounds l n) where
+    -- In edition 1 a cast from pointer to int drops bounds.
     pub drop-answer : {v r : ℕ} {m′ : List Words} {s₁ s₂ : Words} → f ≡ true → Value-answered l m a s v m′ s₁ → Cast-finishes m′ v s₁ r s₂ → Value-answered l m n s r m′ s₂
     unfolding place-at kind-of
     drop-answer taken child finish =
@@ -157,11 +181,11 @@ module _ {l m : List Words} {n : ℕ} {s : Words} {k a : ℕ} (e : k ≡ part l 
         (λ t lists node vars h.
         let nd = cast-node t n (kind-is lists node e q) h in
         let p′ = a-is lists node p in
-        let drops = to-int (is-pointer (node-type t (node-a t n))) (is-pointer (node-b t n)) (sym (by-types lists node (nd .0 .less) hf) ∙ taken) in
+        let drops = to-int (edition t) (node-type t (node-a t n)) (node-b t n) (sym (by-types lists node (nd .0 .less) hf) ∙ taken) in
         (rw p′ (nd .0 .less), rw p′ (nd .0 .tree), λ st. rw (nd .1, drops, p′)))
         child finish
 
-    -- Another keeps all: an int has no bounds to drop.
+    -- Another keeps all.
     pub keep-answer : {v : ℕ} {m′ : List Words} {s₁ : Words} → f ≡ false → Value-answered l m a s v m′ s₁ → Value-answered l m n s v m′ s₁
     unfolding place-at kind-of
     keep-answer taken child =
@@ -174,8 +198,8 @@ module _ {l m : List Words} {n : ℕ} {s : Words} {k a : ℕ} (e : k ≡ part l 
               let st = state-of m (word s unused-slot) log in
               let same : value-at (value-of t n) st ≡ value-at (value-of t a) st =
               ap (λ x. value-at x st) (nd .1)
-              ∙ kept (is-pointer (node-type t (node-a t n))) (is-pointer (node-b t n)) (sym (by-types lists node (nd .0 .less) hf) ∙ taken)
-              (λ int. cast-of-int (lists .passed) (node-a t n) inside (value-node t (node-a t n) (nd .0 .tree)) (no-pointer int) st)
+              ∙ kept (edition t) (node-type t (node-a t n)) (node-b t n) (sym (by-types lists node (nd .0 .less) hf) ∙ taken)
+              (λ first int. cast-of-int (lists .passed) (node-a t n) inside (value-node t (node-a t n) (nd .0 .tree)) (no-pointer int) first st)
               ∙ ap (λ x. value-at (value-of t x) st) (sym p′) in
               rw same (child .meets t lists (omega (arith, nd .0 .less, p′)) vars w log stands (rw p′ (nd .0 .tree)));
         }
@@ -198,7 +222,7 @@ record Left-done (l m : List Words) (n : ℕ) (s : Words) {k : ℕ} (b : Binary 
   then : {r : ℕ} {m₂ : List Words} {s₂ : Words} (t : Words) → Lists t l → n < count t nodes → (vars w : ℕ) (log : List Event)
       → Stands vars w m s log → Value-ok vars (value-of t n)
       → ((x : Datum) (log₁ : List Event) → d < count t nodes → Value-ok vars (value-of t d) → Datum-is x v s₁ → Stands vars w m₁ s₁ log₁ → Datum-ok vars x (state-of m₁ (word s₁ unused-slot) log₁)
-      → Answers Datum-is w m₂ r s₂ (bind (value-at (value-of t d) (state-of m₁ (word s₁ unused-slot) log₁)) (operates b n z x)))
+      → Answers Datum-is w m₂ r s₂ (bind (value-at (value-of t d) (state-of m₁ (word s₁ unused-slot) log₁)) (operates b t n z x)))
       → Answers Datum-is w m₂ r s₂ (value-at (value-of t n) (state-of m (word s unused-slot) log))
 
 module _ {l m m₁ : List Words} {n k a v x : ℕ} {s s₁ : Words} (b : Binary x) (e : k ≡ part l n 0) (p : a ≡ part l n 1) (q : k ≡ x) (child : Value-answered l m a s v m₁ s₁) where
@@ -236,13 +260,16 @@ module _ {l m m₁ : List Words} {n k a v : ℕ} {s s₁ : Words} (e : k ≡ par
   module _ (q : k ≡ 5) where
     pub sum-answer : {w r : ℕ} {m₂ : List Words} {s₂ s₃ : Words} → Value-answered l m₁ d s₁ w m₂ s₂
         → ((x : Datum) → x .value ≡ v → x .base ≡ word s₁ base-slot → x .end ≡ word s₁ end-slot → Sum-finishes z x m₂ w s₂ r s₃) → Value-answered l m n s r m₂ s₃
+    unfolding kind-of
     sum-answer right finish =
         record {
           room = finish (record { value = v; base = word s₁ base-slot; end = word s₁ end-slot }) refl refl refl .room;
           meets = λ t lists node vars watched log st h.
+              let int = rw (← b-is lists node g) at (sum-adds-int t n (lists .passed) node (kind-is lists node e q)) in
               left-done sums e p q child g under p₂ hy hz .then t lists node vars watched log st h
               (λ x log₁ inside tree hx st₁ fine.
-              finish x (hx .value) (hx .base) (hx .end) .meets vars _ watched _ _ (weakened number-of (right .meets t lists inside vars watched log₁ st₁ tree)) (value-good tree _ (st₁ .inv)));
+              rw (sum-of-int (lists .passed) d inside (value-node t d tree) int z x (no-base fine) (state-of m₁ (word s₁ unused-slot) log₁))
+              (finish x (hx .value) (hx .base) (hx .end) .meets vars _ watched _ _ (right .meets t lists inside vars watched log₁ st₁ tree) (value-good tree _ (st₁ .inv))));
         }
 
     -- The right operand is a constant: its number is added, and the slots stay.
@@ -255,7 +282,7 @@ module _ {l m m₁ : List Words} {n k a v : ℕ} {s s₁ : Words} (e : k ≡ par
           meets = λ t lists node vars watched log st h.
               left-done sums e p q child g under p₂ hy hz .then t lists node vars watched log st h
               (λ y log₁ inside tree hx st₁ fine.
-              rw (constant-node t d (four t lists inside), ← a-is lists inside x)
+              rw (constant-node t d (four t lists inside), ← a-is lists inside x, sum-of-number (either-bounds (edition t)) z y (no-base fine) i (state-of m₁ (word s₁ unused-slot) log₁))
               (answers-ok _ log₁ (record { value = ap₂ (λ p x. (p + z * x) % 4294967296) (hx .value) (sym hw) ∙ sym hr; base = hx .base; end = hx .end }) small (st₁ .watches)));
         }
 

@@ -1,14 +1,15 @@
 -- A node that makes sense: its kind, its children, and its tree.
 use Prim.Native.Nat.{ℕ, zero, suc, _≤_, _<_}
-use mathlib.Core.Bool.{Bool, true, _&&_}
+use mathlib.Core.Bool.{Bool, true}
 use mathlib.Core.Path.{_≡_, refl, ap, ap₂, _∙_}
 use native.Mathlib.Omega.{arith}
 use native.Mathlib.Decide.{decLt}
+use borrow.Author.Tests.{eqb-true}
 use lib.ListN.{getD, List·getD-eq-default}
 use Rattle.semantics.specs.Words.{Words, grow}
-use Rattle.semantics.specs.Table.{nodes, item, count, is-pointer, target, points-to-record, pointed-record, field-offset, field-count, size-of, Kind, variable, deref, field, constant, sum, read, address, cast, size, malloc, copy, unknown, kind-of, Sort, sort-of, node-kind, node-a, node-b, node-type}
+use Rattle.semantics.specs.Table.{edition, nodes, item, count, target, points-to-record, pointed-record, field-offset, field-count, size-of, Kind, variable, deref, field, constant, sum, read, address, cast, size, malloc, copy, unknown, kind-of, Sort, sort-of, node-kind, node-a, node-b, node-type}
 use Rattle.semantics.specs.Table as Table
-use Rattle.semantics.specs.Syntax.{Place, Variable, Deref, Field, Value, Number, Sum, Read, Address, Cast, Malloc, Copy, Tree, senseless, as-place, as-value, step-of, tree-by-kind, tree-rule, trees-below, tree-of, place-of, value-of}
+use Rattle.semantics.specs.Syntax.{Place, Variable, Deref, Field, Value, Number, Sum, Read, Address, Cast, Malloc, Copy, Tree, senseless, as-place, as-value, step-of, moves-bounds, keeps-bounds, either-bounds, tree-by-kind, tree-rule, trees-below, tree-of, place-of, value-of}
 use Rattle.semantics.specs.Rules.{Datum, State, Outcome, bind, sum-step, copy-step, value-at}
 use Rattle.semantics.proofs.Tests.{and-true}
 use Rattle.semantics.proofs.Passed.{Passed}
@@ -145,7 +146,7 @@ pub size-node : (t : Words) (n : ℕ) → node-kind t n ≡ size → value-of t 
 unfolding value-of tree-of tree-rule
 size-node t n k = rw k
 
--- A field's offset and its words, a sum's step, a copy's words, and whether a cast keeps bounds.
+-- A field's offset and its words, a sum's step, a copy's words, whether a read has bounds, and whether a cast keeps them.
 abbrev pub offset-of : Words → ℕ → ℕ
 offset-of t n = field-offset t (pointed-record t (node-type t (node-a t n))) (node-b t n)
 
@@ -158,8 +159,14 @@ moves-by t n = step-of t (node-type t (node-a t n))
 abbrev pub copies-words : Words → ℕ → ℕ
 copies-words t n = size-of t (target t (node-type t (node-a t n)))
 
+abbrev pub read-bounds : Words → ℕ → Bool
+read-bounds t n = moves-bounds (edition t) (node-type t n)
+
 abbrev pub cast-keeps : Words → ℕ → Bool
-cast-keeps t n = is-pointer (node-type t (node-a t n)) && is-pointer (node-b t n)
+cast-keeps t n = keeps-bounds (edition t) (node-type t (node-a t n)) (node-b t n)
+
+abbrev pub sum-either : Words → Bool
+sum-either t = either-bounds (edition t)
 
 module _ {vars : ℕ} (t : Words) (n : ℕ) where
   pub variable-node : node-kind t n ≡ variable → Place-ok vars (place-of t n) → (node-a t n < vars) × (place-of t n ≡ Variable n (node-a t n))
@@ -196,11 +203,11 @@ module _ {vars : ℕ} (t : Words) (n : ℕ) where
 
   sum-node : node-kind t n ≡ sum → Value-ok vars (value-of t n)
       → Value-child vars t n (node-a t n) × Value-child vars t n (node-b t n)
-      × (value-of t n ≡ Sum n (moves-by t n) (value-of t (node-a t n)) (value-of t (node-b t n)))
+      × (value-of t n ≡ Sum n (sum-either t) (moves-by t n) (value-of t (node-a t n)) (value-of t (node-b t n)))
   unfolding value-of tree-of tree-rule
-  sum-node k h = with-both (Sum n (moves-by t n)) (rw k) inner h
+  sum-node k h = with-both (Sum n (sum-either t) (moves-by t n)) (rw k) inner h
     where
-      inner : (v w : Value) → Value-ok vars (Sum n (moves-by t n) v w) → Value-ok vars v × Value-ok vars w
+      inner : (v w : Value) → Value-ok vars (Sum n (sum-either t) (moves-by t n) v w) → Value-ok vars v × Value-ok vars w
       inner v w (sum-ok a b) = (a, b)
 
   copy-node : node-kind t n ≡ copy → Value-ok vars (value-of t n)
@@ -213,11 +220,11 @@ module _ {vars : ℕ} (t : Words) (n : ℕ) where
       inner v w (copy-ok some a b) = (a, b)
 
   pub read-node : node-kind t n ≡ read → Value-ok vars (value-of t n)
-      → Place-child vars t n (node-a t n) × (value-of t n ≡ Read n (is-pointer (node-type t n)) (place-of t (node-a t n)))
+      → Place-child vars t n (node-a t n) × (value-of t n ≡ Read n (read-bounds t n) (place-of t (node-a t n)))
   unfolding value-of tree-of tree-rule
-  read-node k h = with-child as-place place-of (Place-ok vars) place-read no-place (Value-ok vars) (Read n (is-pointer (node-type t n))) t n (node-a t n) (rw k) inner h
+  read-node k h = with-child as-place place-of (Place-ok vars) place-read no-place (Value-ok vars) (Read n (read-bounds t n)) t n (node-a t n) (rw k) inner h
     where
-      inner : (p : Place) → Value-ok vars (Read n (is-pointer (node-type t n)) p) → Place-ok vars p
+      inner : (p : Place) → Value-ok vars (Read n (read-bounds t n) p) → Place-ok vars p
       inner p (read-ok ok) = ok
 
   pub address-node : node-kind t n ≡ address → Value-ok vars (value-of t n) → Place-child vars t n (node-a t n) × (value-of t n ≡ Address n (place-of t (node-a t n)))
@@ -250,15 +257,15 @@ pub data Binary : ℕ → Type 0 where
   copies : Binary 11
 
 -- What node n does with both values. The number is the words by which 1 moves the left one: those of the record, for a copy.
-abbrev pub operates : {x : ℕ} → Binary x → (n words : ℕ) → Datum → Datum → State → Outcome Datum
-operates sums n words = sum-step words
-operates copies n words = copy-step n words
+abbrev pub operates : {x : ℕ} → Binary x → (t : Words) (n words : ℕ) → Datum → Datum → State → Outcome Datum
+operates sums t n words = sum-step (sum-either t) words
+operates copies t n words = copy-step n words
 
 pub record Operands (vars : ℕ) (t : Words) (n : ℕ) {x : ℕ} (b : Binary x) : Type 0 where
   pub left : Value-child vars t n (node-a t n)
   pub right : Value-child vars t n (node-b t n)
   pub outcome : (st : State)
-      → value-at (value-of t n) st ≡ bind (value-at (value-of t (node-a t n)) st) (λ p s. bind (value-at (value-of t (node-b t n)) s) (operates b n (moves-by t n) p))
+      → value-at (value-of t n) st ≡ bind (value-at (value-of t (node-a t n)) st) (λ p s. bind (value-at (value-of t (node-b t n)) s) (operates b t n (moves-by t n) p))
 
 -- A copy's left operand points to a record.
 pub copy-points : (t : Words) (n : ℕ) → Passed t → n < count t nodes → node-kind t n ≡ copy → points-to-record t (node-type t (node-a t n)) ≡ true
@@ -276,6 +283,12 @@ binary-node sums t n passed node k h = let nd = sum-node t n k h in record { lef
 binary-node copies t n passed node k h =
     let nd = copy-node t n k h in
     record { left = nd .0; right = nd .1; outcome = λ st. rw (nd .2, copies-step t n passed node k) }
+
+-- A sum's right operand is an int.
+pub sum-adds-int : (t : Words) (n : ℕ) → Passed t → n < count t nodes → node-kind t n ≡ sum → node-type t (node-b t n) ≡ 0
+sum-adds-int t n passed node k =
+    let g : Node-ok t n sum (node-a t n) (node-b t n) = rw k at (node-ok t n (passed .node-passes n node)) in
+    eqb-true (node-type t (node-b t n)) 0 (g .fit)
 
 -- A copy has at least one word.
 pub copy-some : {vars : ℕ} (t : Words) (n : ℕ) → Passed t → n < count t nodes → node-kind t n ≡ copy → Value-ok vars (value-of t n) → 1 ≤ moves-by t n

@@ -1,15 +1,16 @@
 -- Nodes that are worked out without a call, by what is noted of them.
 use Prim.Native.Nat.{ℕ, _+_, _/_, _%_, _<_}
 use mathlib.Core.Bool.{Bool, true}
-use mathlib.Core.Path.{_≡_, sym, _∙_}
+use mathlib.Core.Path.{_≡_, sym, ap, _∙_}
 use mathlib.Core.List.{List}
 use native.Mathlib.Omega.{arith}
 use lib.Dec.{eqb}
 use lib.ListN.{length}
 use Rattle.words.specs.Columns.{column}
 use Rattle.semantics.specs.Words.{Words, word}
-use Rattle.semantics.specs.Table.{nodes, count, variable, constant, read, kind-of, sort-of, node-kind, node-a, node-b, node-type}
+use Rattle.semantics.specs.Table.{edition, nodes, count, is-pointer, variable, constant, read, kind-of, sort-of, node-kind, node-a, node-b, node-type}
 use Rattle.semantics.specs.Table as Table
+use Rattle.semantics.specs.Syntax.{moves-bounds}
 use Rattle.semantics.specs.Rules.{unbounded, variable-location, place-at}
 use Rattle.semantics.proofs.Passed.{require-passes}
 use Rattle.semantics.specs.Check.{is-child}
@@ -18,7 +19,7 @@ use Rattle.semantics.proofs.Steps.{place-good, value-good}
 use Rattle.lookups.specs.Lists.{part, Lists}
 use Rattle.steps.specs.Answers.{failed, Datum-is, answers-ok, Given, Load-finishes, Malloc-finishes}
 use Rattle.evaluator.specs.Result.{Place-ready, Value-ready, Place-answered, Value-answered, Assigned-answered, Reads-variable}
-use Rattle.lookups.proofs.Lookups.{noted-type, constant-bit, variable-bit, read-bit}
+use Rattle.lookups.proofs.Lookups.{noted-bounds, constant-bit, variable-bit, read-bit}
 use Rattle.evaluator.proofs.Nodes.{place-node, value-node, kind-number, constant-node, variable-node, read-node, malloc-node}
 use Rattle.evaluator.proofs.Outcomes.{weakened, place-only}
 use Rattle.evaluator.proofs.Ready.{kind-is, a-is, read-type}
@@ -27,13 +28,13 @@ use Rattle.evaluator.proofs.Evaluation.{from-none}
 -- ---- nodes worked out without a call, by what is noted of them
 
 module _ {l : List Words} {n x : ℕ} {f : Bool} (e : x ≡ word (column l 1) n) (taken : f ≡ true) where
-  pub is-constant : f ≡ eqb (x / 128 % 2) 1 → (t : Words) → Lists t l → n < count t nodes → node-kind t n ≡ constant
+  pub is-constant : f ≡ eqb (x / 256 % 2) 1 → (t : Words) → Lists t l → n < count t nodes → node-kind t n ≡ constant
   is-constant h t lists node = constant-bit lists node e taken h
 
-  pub is-variable : f ≡ eqb (x / 256 % 2) 1 → (t : Words) → Lists t l → n < count t nodes → sort-of (node-kind t n) ≡ Table.place → node-kind t n ≡ variable
+  pub is-variable : f ≡ eqb (x / 512 % 2) 1 → (t : Words) → Lists t l → n < count t nodes → sort-of (node-kind t n) ≡ Table.place → node-kind t n ≡ variable
   is-variable h t lists node sort = variable-bit lists node e taken h sort
 
-  pub reads-variable : f ≡ eqb (x / 256 % 2) 1 → Reads-variable l n
+  pub reads-variable : f ≡ eqb (x / 512 % 2) 1 → Reads-variable l n
   unfolding kind-of
   reads-variable h =
       record {
@@ -43,7 +44,7 @@ module _ {l : List Words} {n x : ℕ} {f : Bool} (e : x ≡ word (column l 1) n)
       }
 
 -- A read whose child is noted so.
-pub reads-noted : {l : List Words} {n k a x : ℕ} {f : Bool} → k ≡ part l n 0 → k ≡ 6 → a ≡ part l n 1 → x ≡ word (column l 1) a → f ≡ true → f ≡ eqb (x / 256 % 2) 1 → Reads-variable l n
+pub reads-noted : {l : List Words} {n k a x : ℕ} {f : Bool} → k ≡ part l n 0 → k ≡ 6 → a ≡ part l n 1 → x ≡ word (column l 1) a → f ≡ true → f ≡ eqb (x / 512 % 2) 1 → Reads-variable l n
 unfolding kind-of
 reads-noted {n = n} e q p hx taken h =
     record {
@@ -62,7 +63,7 @@ module _ {l m : List Words} {n : ℕ} {s : Words} {a : ℕ} (p : a ≡ part l n 
 
   -- A variable's word is read.
   module _ {i w : ℕ} (reads : Reads-variable l n) (g : i ≡ part l a 1) (hw : w ≡ i + 1) where
-    pub variable-read : {y r : ℕ} {s′ : Words} → w < failed → y ≡ word (column l 1) a % 128 → Load-finishes y m w s r s′ → Value-answered l m n s r m s′
+    pub variable-read : {y r : ℕ} {s′ : Words} → w < failed → y ≡ word (column l 1) a % 256 → Load-finishes y m w s r s′ → Value-answered l m n s r m s′
     unfolding place-at
     variable-read {y} under hy finish =
         record {
@@ -76,7 +77,7 @@ module _ {l m : List Words} {n : ℕ} {s : Words} {a : ℕ} (p : a ≡ part l n 
               let inside : a < count t nodes = omega (arith, less, p′) in
               let v = variable-node t a (rw p′ (k .1)) tree in
               let i′ = a-is lists inside g in
-              let y′ : y ≡ node-type t n = noted-type lists inside hy .0 ∙ rw p′ (sym (read-type t n (k .0) less)) in
+              let y′ : is-pointer y ≡ moves-bounds (edition t) (node-type t n) = noted-bounds lists inside hy ∙ ap (moves-bounds (edition t)) (rw p′ (sym (read-type t n (k .0) less))) in
               rw (nd .1, ← y′, ← p′, v .1, ← i′)
               (finish .meets vars _ watched _ _ (answers-ok (variable-location i) log (record { at = omega arith }) under (st .watches)) (rw (v .1, ← i′) at (place-good tree _ (st .inv))));
         }

@@ -18,6 +18,8 @@ use lookups::A;
 use lookups::B;
 use lookups::KIND;
 use lookups::Lists;
+use lookups::bounds_in;
+use lookups::bounds_of;
 use lookups::child;
 use lookups::count;
 use lookups::drops;
@@ -28,7 +30,6 @@ use lookups::of_variable;
 use lookups::offset;
 use lookups::size_of;
 use lookups::step;
-use lookups::type_in;
 use lookups::type_of;
 use steps::BASE;
 use steps::END;
@@ -68,7 +69,7 @@ fn read_variable(l: &Lists, m: &mut Memory, n: usize, s: &mut Slots) -> u64
     ensures { λ r. ⌜ (Value-answered (map (λ x. now x) (now (l .entry))) (map (λ x. now x) (now (m .entry))) n (now (s .entry)) r (map (λ x. now x) (now (m .exit))) (now (s .exit))) × (now (m .exit) ≡ now (m .entry)) ⌝ }
 {
     let c = child(l, n, A);
-    fetch(m, index(item(l, c, A)) + 1, type_of(l, c), s)
+    fetch(m, index(item(l, c, A)) + 1, bounds_of(l, c), s)
 }
 
 // The place that node n is, with its bounds.
@@ -134,7 +135,7 @@ pub fn value(l: &Lists, m: &mut Memory, n: usize, s: &mut Slots) -> u64
                 return read_variable(l, m, n, s);
             }
             let at = place(l, m, c, s);
-            load(m, at, type_in(x), s)
+            load(m, at, bounds_in(x), s)
         }
         kind::ADDRESS => place(l, m, child(l, n, A), s),
         kind::CAST => {

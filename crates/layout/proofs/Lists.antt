@@ -35,6 +35,12 @@ module _ (l : Words) (at : ℕ) (g : ℕ → ℕ) where
   filled-before zero k h = refl
   filled-before (suc n) k h = getD-set-other (filled l at n g) (at + n) k (g n) 0 (λ e. omega arith) ∙ filled-before n k h
 
+  -- And so are those after the last.
+  pub filled-after : (n k : ℕ) → at + n ≤ k → word (filled l at n g) k ≡ word l k
+  unfolding filled
+  filled-after zero k h = refl
+  filled-after (suc n) k h = getD-set-other (filled l at n g) (at + n) k (g n) 0 (λ e. omega arith) ∙ filled-after n k (omega arith)
+
   pub filled-at : (n i k : ℕ) → k ≡ at + i → at + n ≤ length l → i < n → word (filled l at n g) k ≡ g i
   unfolding filled
   filled-at zero i k e h less = absurd (not-suc-le-zero less)

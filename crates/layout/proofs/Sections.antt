@@ -6,9 +6,9 @@ use borrow.Author.Tests.{le-ltb, lt-ltb, le-leb, lt-leb}
 use lib.ListN.{length}
 use Rattle.semantics.specs.Words.{Words, word}
 use Rattle.semantics.specs.Table.{entry-words, limits, count-place, count}
-use Rattle.semantics.specs.Check.{Verdict, passes, refused, _or-else_, require, each, section-fault, words-over}
+use Rattle.semantics.specs.Check.{Verdict, passes, refused, _or-else_, require, each, edition-fault, section-fault, words-over}
 use Rattle.semantics.proofs.Passed.{or-else-passes, each-passes, section-ok}
-use Rattle.layout.specs.Layout.{section-of, section-by, layout, layout-by, parsed, Stands, Laid-out}
+use Rattle.layout.specs.Layout.{section-of, section-by, sections-fault, layout, layout-by, parsed, Stands, Laid-out}
 use Rattle.layout.specs.declared.Section.{Section}
 use Rattle.layout.specs.declared.Table.{Table}
 use Rattle.layout.specs.declared.ParsedSection.{ParsedSection}
@@ -40,12 +40,14 @@ module _ (t : Words) (s place words limit : ℕ) (p : place ≡ count-place t s)
 -- The sections before s pass, and r is what was read of section s.
 pub record Answer (t : Words) (s : ℕ) (r : ParsedSection) : Type 0 where
   pub fits : length t < 2 ^ 64
+  pub edition : edition-fault t ≡ passes
   pub before : each s (section-fault t) ≡ passes
   pub answer : r ≡ section-by t s (section-fault t s)
 
 -- Sections 0 to s pass, and l is section s.
 pub record Read-to (t : Words) (s : ℕ) (l : Section) : Type 0 where
   pub fits : length t < 2 ^ 64
+  pub edition : edition-fault t ≡ passes
   pub passed : each (suc s) (section-fault t) ≡ passes
   pub is : l ≡ section-of t s
   pub next : l .at + word entry-words s * l .count ≡ count-place t (suc s)
@@ -68,6 +70,7 @@ module _ (t : Words) (s : ℕ) (r : ParsedSection) where
       let ok = section-ok t s (b .0) in
       record {
         fits = a .fits;
+        edition = a .edition;
         passed = rw (a .before, b .0) refl;
         is = b .1;
         next = rw (b .1) refl;
@@ -77,7 +80,12 @@ module _ (t : Words) (s : ℕ) (r : ParsedSection) where
 
   pub refused-at : (n p : ℕ) → s < 6 → Answer t s r → r ≡ Refused n p → table.Refused n p ≡ parsed t
   unfolding parsed _or-else_
-  refused-at n p h a q = rw (← each-refuses (section-fault t) s (a .before) 6 h (by-refused (section-fault t s) n p (a .answer) q)) refl
+  refused-at n p h a q = rw (a .edition, ← each-refuses (section-fault t) s (a .before) 6 h (by-refused (section-fault t s) n p (a .answer) q)) refl
+
+-- Another edition follows the mark.
+pub other-edition : (t : Words) {n p : ℕ} → edition-fault t ≡ refused n p → table.Refused n p ≡ parsed t
+unfolding parsed _or-else_
+other-edition t e = rw e refl
 
 -- All six sections were read.
 module _ (t : Words) (records fields pointers variables nodes commands : Section)
@@ -87,11 +95,11 @@ module _ (t : Words) (records fields pointers variables nodes commands : Section
       → table.Is (record { records = records; fields = fields; pointers = pointers; variables = variables; nodes = nodes; commands = commands }) ≡ parsed t
   unfolding parsed _or-else_ words-over require
   layout-is h =
-      rw (read₅ .passed, le-leb (length t) (count-place t 6) (omega arith), read₀ .is, read₁ .is, read₂ .is, read₃ .is, read₄ .is, read₅ .is) refl
+      rw (read₅ .edition, read₅ .passed, le-leb (length t) (count-place t 6) (omega arith), read₀ .is, read₁ .is, read₂ .is, read₃ .is, read₄ .is, read₅ .is) refl
 
 pub words-left : (t : Words) (commands : Section) → Read-to t 5 commands → commands .at + 2 * commands .count < length t → table.Refused 2 (commands .at + 2 * commands .count) ≡ parsed t
 unfolding parsed _or-else_ words-over require
-words-left t commands read h = rw (read .passed, ← (read .next), lt-leb (length t) (commands .at + 2 * commands .count) h) refl
+words-left t commands read h = rw (read .edition, read .passed, ← (read .next), lt-leb (length t) (commands .at + 2 * commands .count) h) refl
 
 -- What a layout that was parsed tells a caller.
 module _ (t : Words) where
@@ -109,20 +117,21 @@ module _ (t : Words) where
   layout-by-refused passes e = absurd (let z : _≡_ {A = ℕ} 0 1 = cc in omega arith)
   layout-by-refused (refused a b) e = cc
 
-  -- The check's first two parts pass.
-  pub parsed-passes : (l : Table) → parsed t ≡ table.Is l → each 6 (section-fault t) or-else words-over t ≡ passes
+  -- The check's first three parts pass.
+  pub parsed-passes : (l : Table) → parsed t ≡ table.Is l → sections-fault t ≡ passes
   unfolding parsed
-  parsed-passes l e = layout-by-is (each 6 (section-fault t) or-else words-over t) l e .0
+  parsed-passes l e = layout-by-is (sections-fault t) l e .0
 
-  pub parsed-refused : {n p : ℕ} → parsed t ≡ table.Refused n p → each 6 (section-fault t) or-else words-over t ≡ refused n p
+  pub parsed-refused : {n p : ℕ} → parsed t ≡ table.Refused n p → sections-fault t ≡ refused n p
   unfolding parsed
-  parsed-refused e = layout-by-refused (each 6 (section-fault t) or-else words-over t) e
+  parsed-refused e = layout-by-refused (sections-fault t) e
 
   pub laid-out : (l : Table) → parsed t ≡ table.Is l → Laid-out t l
   unfolding parsed
   laid-out l e =
-      let b = layout-by-is (each 6 (section-fault t) or-else words-over t) l e in
-      let pass = each-passes 6 (section-fault t) (or-else-passes (each 6 (section-fault t)) (words-over t) (b .0) .0) in
+      let b = layout-by-is (sections-fault t) l e in
+      let sections = or-else-passes (edition-fault t) _ (b .0) .1 in
+      let pass = each-passes 6 (section-fault t) (or-else-passes (each 6 (section-fault t)) (words-over t) sections .0) in
       rw (← (b .1))
       (record {
         records-stand = stands-of 0 (pass 0 (omega arith));

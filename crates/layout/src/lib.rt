@@ -1,11 +1,11 @@
-// The layout of a table, and the check of everything before its nodes: sections, records, fields, pointers, variables.
+// The layout of a table, and the check of everything before its nodes: edition, sections, records, fields, pointers, variables.
 ghost use mathlib.Core.Path.{_≡_};
 ghost use Prim.Native.Nat.{ℕ, _+_, _≤_};
 ghost use lib.ListN.{length, replicate};
 ghost use Rattle.semantics.specs.Words.{Words, word};
-ghost use Rattle.semantics.specs.Table.{count-place, count, entry-words, limits, known-type, known-target, first-field};
-ghost use Rattle.semantics.specs.Check.{each, section-fault, record-fault, field-fault, pointer-fault, variable-fault};
-ghost use Rattle.layout.specs.Layout.{verdict-of, section-by, parsed, Stands, Laid-out};
+ghost use Rattle.semantics.specs.Table.{edition, count-place, count, entry-words, limits, known-type, known-target, first-field};
+ghost use Rattle.semantics.specs.Check.{edition-fault, each, section-fault, record-fault, field-fault, pointer-fault, variable-fault};
+ghost use Rattle.layout.specs.Layout.{verdict-of, edition-by, start-by, section-by, parsed, Stands, Laid-out};
 ghost use Rattle.layout.specs.Lists.{filled, passed-below};
 ghost use Rattle.layout.specs.Types.{types-fault, slot, Marks, Room, marked, first-left, entry-left, Checked, Looked-up};
 use words::index;
@@ -70,15 +70,23 @@ pub mod kind {
 
 // The bits of a node's note. Types are below the lowest.
 pub mod note {
-    // A value that is neither of the next two.
+    // A value that is neither a constant nor the read of a variable.
     pub const VALUE: u32 = 0;
 
-    pub const CONSTANT: u32 = 128;
+    // Base and end go with the value whatever the type, as in edition 2. The check of nodes does not set it.
+    pub const BOUNDS: u32 = 128;
+
+    pub const CONSTANT: u32 = 256;
 
     // A variable, or the read of one.
-    pub const VARIABLE: u32 = 256;
+    pub const VARIABLE: u32 = 512;
 
-    pub const PLACE: u32 = 512;
+    pub const PLACE: u32 = 1024;
+}
+
+enum Start {
+    At(usize),
+    Refused(u32, usize),
 }
 
 enum ParsedSection {
@@ -100,7 +108,7 @@ pub enum Verdict {
 impl Section {
     // The section whose count stands at `place` and whose entries have `words` words each, or the refusal (1, 3, then 1).
     fn parse(t: &[u32], place: usize, words: usize, limit: usize) -> ParsedSection
-        requires { ⌜ (place ≤ length (now t)) × (words ≤ 3) × (limit ≤ 512) ⌝ }
+        requires { ⌜ (words ≤ 3) × (limit ≤ 512) ⌝ }
         ensures { λ r. ⌜ ((s : ℕ) → place ≡ count-place (now (t .entry)) s → words ≡ word entry-words s → limit ≡ word limits s → r ≡ section-by (now (t .entry)) s (section-fault (now (t .entry)) s)) ⌝ }
     {
         let length = t.len();
@@ -119,7 +127,38 @@ impl Section {
     }
 }
 
+// Whether a table starts with the mark: it is of edition 2, or else refused.
+pub fn is_marked(t: &[u32]) -> bool
+    ensures { λ r. ⌜ edition-by r ≡ edition (now (t .entry)) ⌝ }
+{
+    if t.len() == 0 {
+        return false;
+    }
+    t[0] == Table::MARK
+}
+
+// Where the first section stands, or 16 for another edition.
+fn first_section(t: &[u32]) -> Start
+    ensures { λ r. ⌜ r ≡ start-by (edition (now (t .entry))) (edition-fault (now (t .entry))) ⌝ }
+{
+    if !is_marked(t) {
+        return Start::At(0);
+    }
+    if t.len() <= 1 {
+        return Start::At(2);
+    }
+    if t[1] != Table::EDITION {
+        return Start::Refused(16, 1);
+    }
+    Start::At(2)
+}
+
 impl Table {
+    // The word that marks a table of an edition, and the edition that is known.
+    pub const MARK: u32 = 4294967295;
+
+    pub const EDITION: u32 = 2;
+
     pub const RECORDS: usize = 32;
 
     pub const FIELDS: usize = 128;
@@ -140,11 +179,15 @@ impl Table {
     // The target that is record 0.
     pub const RECORD: u32 = 65536;
 
-    // The layout of a table, or the refusal: the sections in turn (1, 3, then 1), then words over (2).
+    // The layout of a table, or the refusal: another edition (16), the sections in turn (1, 3, then 1), then words over (2).
     pub fn parse(t: &[u32]) -> Parsed
         ensures { λ r. ⌜ r ≡ parsed (now (t .entry)) ⌝ }
     {
-        let records = match Section::parse(t, 0, 1, Table::RECORDS) {
+        let first = match first_section(t) {
+            Start::At(p) => p,
+            Start::Refused(n, p) => return Parsed::Refused(n, p),
+        };
+        let records = match Section::parse(t, first, 1, Table::RECORDS) {
             ParsedSection::Is(s) => s,
             ParsedSection::Refused(n, p) => return Parsed::Refused(n, p),
         };

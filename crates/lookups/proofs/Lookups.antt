@@ -6,22 +6,30 @@ use mathlib.Core.Logic.{⊎-elim}
 use mathlib.Core.List.{List}
 use native.Mathlib.Omega.{arith}
 use native.Mathlib.Decide.{decLt}
-use borrow.Author.Tests.{lt-leb, le-leb, lt-ltb, ltb-true, leb-true, eqb-true, ne-eqb}
+use borrow.Author.Tests.{lt-leb, le-leb, lt-ltb, le-ltb, ltb-true, leb-true, eqb-true, ne-eqb}
 use lib.Dec.{leb, ltb, eqb}
 use lib.ListN.{length}
 use Rattle.semantics.specs.Words.{Words, word, if_then_else_}
-use Rattle.semantics.specs.Table.{records, fields, pointers, nodes, count, item, is-pointer, known-type, known-target, target, points-to-record, pointed-record, field-total, first-field, field-offset, field-count, size-of, variable, field, constant, read, place, value, sort-of, node-kind, node-a, node-b, node-type}
-use Rattle.semantics.specs.Syntax.{step-of}
+use Rattle.semantics.specs.Table.{Edition, edition-1, edition-2, edition, records, fields, pointers, nodes, count, item, is-pointer, known-type, known-target, target, points-to-record, pointed-record, field-total, first-field, field-offset, field-count, size-of, variable, field, constant, read, place, value, sort-of, node-kind, node-a, node-b, node-type}
+use Rattle.semantics.specs.Syntax.{step-of, moves-bounds}
 use Rattle.semantics.specs.Check.{is-child}
 use Rattle.semantics.proofs.Passed.{Types-passed, section-ok, require-passes, target-known, record-known, field-in}
 use Rattle.semantics.proofs.Tests.{and-true, or-true}
 use Rattle.semantics.proofs.Trees.{Node-ok, node-ok, is-child-true, types-known}
 use Rattle.layout.specs.Types.{Record-in}
-use Rattle.layout.specs.Notes.{note}
-use Rattle.layout.proofs.Notes.{type-noted, constant-noted, variable-noted, read-noted}
+use Rattle.layout.specs.Notes.{as-of, note}
+use Rattle.layout.proofs.Notes.{type-noted, low-noted, bounds-noted, constant-noted, variable-noted, read-noted}
 use Rattle.layout.proofs.Types.{record-in}
-use Rattle.lookups.specs.Lists.{part, Lists, Field-node, Known-word}
+use Rattle.lookups.specs.Lists.{part, pointer-by-type, tracked-by-type, Lists, Field-node, Known-word}
 use Rattle.words.specs.Columns.{column}
+
+and-trivial : (b : Bool) → b && true ≡ b
+and-trivial true = refl
+and-trivial false = refl
+
+and-false : (b : Bool) → b && false ≡ false
+and-false true = refl
+and-false false = refl
 
 few-fields : {t : Words} → Types-passed t → count t fields ≤ 128
 few-fields {t} ok = section-ok t 1 (ok .sections 1 (omega arith)) .limited
@@ -56,25 +64,37 @@ module _ {t : Words} {l : List Words} (lists : Lists t l) {a : ℕ} (inside : a 
   -- Its type, which is known.
   pub noted-type : {y : ℕ} → y ≡ word (column l 1) a % 128 → (y ≡ node-type t a) × Known-word known-type t l y
   noted-type e =
-      let same = e ∙ ap (λ x. x % 128) (lists .note-is a inside) ∙ type-noted t a small in
+      let same = e ∙ ap (λ x. x % 128) (lists .note-is a inside) ∙ type-noted (edition t) t a small in
       (same, record { lists = lists; known = rw same known })
+
+  -- Whether base and end go with its value.
+  pub noted-bounds : {y : ℕ} → y ≡ word (column l 1) a % 256 → is-pointer y ≡ moves-bounds (edition t) (node-type t a)
+  noted-bounds e = rw (e, lists .note-is a inside) (bounds-noted (edition t) t a small)
+
+  -- Whether they go by its type.
+  pub noted-by-type : {y : ℕ} → y ≡ word (column l 1) a → pointer-by-type y ≡ tracked-by-type (edition t) (node-type t a)
+  noted-by-type e = rw (e, lists .note-is a inside, low-noted (edition t) t a small) (go (edition t))
+    where
+      go : (e : Edition) → is-pointer (as-of e (node-type t a)) && ltb (as-of e (node-type t a)) 128 ≡ tracked-by-type e (node-type t a)
+      go edition-1 = rw (lt-ltb (node-type t a) 128 small) (and-trivial (is-pointer (node-type t a)))
+      go edition-2 = rw (le-ltb (node-type t a + 128) 128 (omega arith)) (and-false (is-pointer (node-type t a + 128)))
 
   -- A bit of its note that is set.
   module _ {x : ℕ} {f : Bool} (e : x ≡ word (column l 1) a) (taken : f ≡ true) where
     is-set : {b : ℕ} → f ≡ eqb b 1 → b ≡ 1
     is-set {b} h = eqb-true b 1 (sym h ∙ taken)
 
-    is-note : x ≡ note t a
+    is-note : x ≡ note (edition t) t a
     is-note = e ∙ lists .note-is a inside
 
-    pub constant-bit : f ≡ eqb (x / 128 % 2) 1 → node-kind t a ≡ constant
-    constant-bit h = constant-noted t a small (rw (← is-note) (is-set h))
+    pub constant-bit : f ≡ eqb (x / 256 % 2) 1 → node-kind t a ≡ constant
+    constant-bit h = constant-noted (edition t) t a small (rw (← is-note) (is-set h))
 
-    pub variable-bit : f ≡ eqb (x / 256 % 2) 1 → sort-of (node-kind t a) ≡ place → node-kind t a ≡ variable
-    variable-bit h s = variable-noted t a small s (rw (← is-note) (is-set h))
+    pub variable-bit : f ≡ eqb (x / 512 % 2) 1 → sort-of (node-kind t a) ≡ place → node-kind t a ≡ variable
+    variable-bit h s = variable-noted (edition t) t a small s (rw (← is-note) (is-set h))
 
-    pub read-bit : f ≡ eqb (x / 256 % 2) 1 → sort-of (node-kind t a) ≡ value → (node-kind t a ≡ read) × (item t nodes (node-a t a) 0 ≡ 1)
-    read-bit h s = read-noted t a small s (rw (← is-note) (is-set h))
+    pub read-bit : f ≡ eqb (x / 512 % 2) 1 → sort-of (node-kind t a) ≡ value → (node-kind t a ≡ read) × (item t nodes (node-a t a) 0 ≡ 1)
+    read-bit h s = read-noted (edition t) t a small s (rw (← is-note) (is-set h))
 
 -- ---- records
 
@@ -254,10 +274,16 @@ pub drops-no : {b x : ℕ} (f : Bool) → (b ≡ 0 → ⊥) → b ≡ x → fals
 unfolding is-pointer
 drops-no {b} f some e = rw (← e, le-leb 1 b (omega (arith, some)))
 
-pub drops-yes : {b x z : ℕ} (y : ℕ) → b ≡ 0 → b ≡ x → y ≡ z → not (eqb y 0) ≡ not (is-pointer x) && is-pointer z
+pub drops-yes : {b x : ℕ} {f g : Bool} → b ≡ 0 → b ≡ x → f ≡ g → f ≡ not (is-pointer x) && g
 unfolding is-pointer
-drops-yes y none e same = rw (← e, none, ← same) (go y)
-  where
-    go : (y : ℕ) → not (eqb y 0) ≡ is-pointer y
-    go zero = refl
-    go (suc y) = rw (ne-eqb (suc y) 0 (λ z. omega arith), le-leb 1 (suc y) (omega arith))
+drops-yes none e same = rw (← e, none) same
+
+-- ---- whether bounds go by the type, from the note's lowest byte
+
+pub no-type : {y : ℕ} (x : ℕ) → y ≡ x % 256 → y ≡ 0 → false ≡ pointer-by-type x
+unfolding is-pointer
+no-type x e none = rw (← e, none)
+
+pub some-type : {y : ℕ} (x : ℕ) → y ≡ x % 256 → (y ≡ 0 → ⊥) → ltb y 128 ≡ pointer-by-type x
+unfolding is-pointer
+some-type {y} x e some = rw (← e, le-leb 1 y (omega (arith, some)))

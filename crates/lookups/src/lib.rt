@@ -8,7 +8,7 @@ ghost use Rattle.semantics.specs.Words.{Words, word};
 ghost use Rattle.semantics.specs.Table.{known-type, known-target, target, pointed-record, first-field, field-offset, field-count, size-of, node-a, node-b, node-type};
 ghost use Rattle.semantics.specs.Syntax.{step-of};
 ghost use Rattle.words.specs.Columns.{column};
-ghost use Rattle.lookups.specs.Lists.{part, to-int-from-pointer, Field-node, Field-ready, Known-word, Known-ready};
+ghost use Rattle.lookups.specs.Lists.{part, pointer-by-type, drops-bounds, Field-node, Field-ready, Known-word, Known-ready};
 use layout::Table;
 use layout::note;
 use words::index;
@@ -71,22 +71,29 @@ pub fn noted(l: &Lists, n: usize) -> u32
 }
 
 // The type in a note.
-pub fn type_in(x: u32) -> u32
+fn type_in(x: u32) -> u32
     ensures { λ r. ⌜ r ≡ x % 128 ⌝ }
+{
+    x % note::BOUNDS
+}
+
+// Not 0 where base and end go with the value: its type is a pointer's, or the table is of edition 2.
+pub fn bounds_in(x: u32) -> u32
+    ensures { λ r. ⌜ r ≡ x % 256 ⌝ }
 {
     x % note::CONSTANT
 }
 
 // A note of a constant.
 pub fn is_constant(x: u32) -> bool
-    ensures { λ r. ⌜ r ≡ eqb (x / 128 % 2) 1 ⌝ }
+    ensures { λ r. ⌜ r ≡ eqb (x / 256 % 2) 1 ⌝ }
 {
     x / note::CONSTANT % 2 == 1
 }
 
 // A note of a variable, or of the read of one.
 pub fn of_variable(x: u32) -> bool
-    ensures { λ r. ⌜ r ≡ eqb (x / 256 % 2) 1 ⌝ }
+    ensures { λ r. ⌜ r ≡ eqb (x / 512 % 2) 1 ⌝ }
 {
     x / note::VARIABLE % 2 == 1
 }
@@ -99,15 +106,34 @@ pub fn type_of(l: &Lists, n: usize) -> u32
     type_in(noted(l, n))
 }
 
-// Whether node n, a cast, goes from pointer to int: else bounds stay as they are, since an int has none.
+// Not 0 where base and end go with the value of node n.
+pub fn bounds_of(l: &Lists, n: usize) -> u32
+    requires { ⌜ (n < 512) × (n < length (column (map (λ x. now x) (now l)) 1)) ⌝ }
+    ensures { λ r. ⌜ r ≡ word (column (map (λ x. now x) (now (l .entry))) 1) n % 256 ⌝ }
+{
+    bounds_in(noted(l, n))
+}
+
+// A note of a pointer whose bounds go by its type, as in edition 1. In a byte, so that the compiler asks both with one test of its sign.
+fn by_type(x: u32) -> bool
+    ensures { λ r. ⌜ r ≡ pointer-by-type x ⌝ }
+{
+    let low = (x % note::CONSTANT) as u8;
+    if low == 0 {
+        return false;
+    }
+    low < 128
+}
+
+// Whether node n, a cast, drops bounds: in edition 1 from pointer to int. Else they stay as they are, since an int has none there.
 pub fn drops(l: &Lists, n: usize) -> bool
     requires { ⌜ (n < 512) × (n * 3 + 2 < length (column (map (λ x. now x) (now l)) 0)) × (part (map (λ x. now x) (now l)) n 1 < 512) × (part (map (λ x. now x) (now l)) n 1 < length (column (map (λ x. now x) (now l)) 1)) ⌝ }
-    ensures { λ r. ⌜ r ≡ to-int-from-pointer (map (λ x. now x) (now (l .entry))) n ⌝ }
+    ensures { λ r. ⌜ r ≡ drops-bounds (map (λ x. now x) (now (l .entry))) n ⌝ }
 {
     if item(l, n, B) != 0 {
         return false;
     }
-    type_of(l, child(l, n, A)) != 0
+    by_type(noted(l, child(l, n, A)))
 }
 
 // What this pointer type, an entry, points to.

@@ -3,7 +3,7 @@ use Prim.Native.Nat.{ℕ}
 use mathlib.Core.Path.{_≡_}
 use lib.ListN.{length}
 use Rattle.semantics.specs.Words.{Words}
-use Rattle.semantics.specs.Table.{variables, count}
+use Rattle.semantics.specs.Table.{edition, variables, count}
 use Rattle.semantics.specs.Check.{check, passes}
 use Rattle.semantics.specs.Run as semantics
 use Rattle.semantics.specs.Run.{refusal, ending, done, abort, out-of-memory, Result}
@@ -27,10 +27,10 @@ pub record Is (result : Result) (r : Answer) (vs bs es : Words) : Type 0 where
   pub bases : bs ≡ result .bases
   pub ends : es ≡ result .ends
 
--- The table passes the check, which has left these lists.
+-- The table passes the check, which has left these lists, with notes as of the table's edition.
 pub record Program (t first sizes offsets notes : Words) : Type 0 where
   pub passed : check t ≡ passes
-  pub left : Left t first sizes offsets notes
+  pub left : Left (edition t) t first sizes offsets notes
 
 -- Lists in which a run of a table with this many variables can be begun.
 pub record Can-begin (vars : ℕ) (inputs registers vs bs es : Words) : Type 0 where

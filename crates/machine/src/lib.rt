@@ -23,6 +23,7 @@ use layout::Verdict;
 use registers::check_registers;
 use registers::set_registers;
 use registers::start_of;
+use table::note_edition;
 use words::clear;
 use words::clear_from;
 use words::index;
@@ -273,20 +274,24 @@ fn call(
     let mut offsets = [0u32; Table::FIELDS];
     let mut notes = [0u32; Table::NODES];
     match table::check(t, &mut first, &mut sizes, &mut offsets, &mut notes) {
-        Parsed::Is(l) => run_checked(
-            t,
-            l,
-            &first,
-            &sizes,
-            &offsets,
-            &notes,
-            inputs,
-            registers,
-            watched,
-            values,
-            bases,
-            ends,
-        ),
+        Parsed::Is(l) => {
+            let nodes = l.nodes;
+            note_edition(t, nodes.count, &mut notes);
+            run_checked(
+                t,
+                l,
+                &first,
+                &sizes,
+                &offsets,
+                &notes,
+                inputs,
+                registers,
+                watched,
+                values,
+                bases,
+                ends,
+            )
+        }
         Parsed::Refused(n, p) => Explained::Refused(n, p),
     }
 }

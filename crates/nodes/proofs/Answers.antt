@@ -10,7 +10,7 @@ use lib.Dec.{eqb}
 use lib.ListN.{length, set, length-set}
 use lib.Seq.{getD-set-same, getD-set-other}
 use Rattle.semantics.specs.Words.{Words, word, if_then_else_}
-use Rattle.semantics.specs.Table.{nodes, count, item-place, item, known-type, Kind, field, read, unknown, Sort, neither, sort-of, Operand, operand-a, operand-b, child, children, type-rule, types-below, node-type, node-kind, node-a, node-b, pointed-record, points-to-record, kind-of}
+use Rattle.semantics.specs.Table.{edition-1, nodes, count, item-place, item, known-type, Kind, field, read, unknown, Sort, neither, sort-of, Operand, operand-a, operand-b, child, children, type-rule, types-below, node-type, node-kind, node-a, node-b, pointed-record, points-to-record, kind-of}
 use Rattle.semantics.specs.Table as table
 use Rattle.semantics.specs.Check.{Verdict, passes, refused, _or-else_, require, each, same-sort, is-child, operand-fault, types-fit, node-fault, occurrences}
 use Rattle.semantics.proofs.Passed.{or-else-passes, require-passes, each-passes}
@@ -148,7 +148,7 @@ module _ {t notes : Words} {n place : ℕ} (h : Reached t notes n place) where
     verdict-same = rw (q, same-fault) (verdict-is (kind-fault t n k (word t (place + 1)) (word t (place + 2))) (type-found t n k (word t (place + 1)) (word t (place + 2))))
 
     -- The bits of its note are asked where it passes.
-    note-is : {mark : ℕ} → (typed-verdict x ≡ passes → mark ≡ bits k (item t nodes (word t (place + 1)) 0)) → note-added x mark n notes ≡ by-verdict (node-fault t n) (set notes n (note t n)) notes
+    note-is : {mark : ℕ} → (typed-verdict x ≡ passes → mark ≡ bits k (item t nodes (word t (place + 1)) 0)) → note-added x mark n notes ≡ by-verdict (node-fault t n) (set notes n (note edition-1 t n)) notes
     unfolding typed-kind note node-type type-rule
     note-is {mark} m =
         rw (q, same-fault, kind-at, a-at, b-at, e) (note-by (kind-fault t n k (word t (place + 1)) (word t (place + 2))) (type-found t n k (word t (place + 1)) (word t (place + 2))) (λ p. m (verdict-same ∙ same-fault ∙ p)))

@@ -9,7 +9,7 @@ use borrow.Author.Tests.{lt-ltb, le-ltb, ltb-true, eqb-true, ne-eqb}
 use lib.Dec.{ltb, eqb}
 use lib.ListN.{List·getD-eq-default}
 use Rattle.semantics.specs.Words.{Words, word}
-use Rattle.semantics.specs.Table.{nodes, item, known-type, variable, read, unknown, kinds, kind-of, Sort, place, value, neither, sort-of, node-kind, types-below, node-type}
+use Rattle.semantics.specs.Table.{edition-1, nodes, item, known-type, variable, read, unknown, kinds, kind-of, Sort, place, value, neither, sort-of, node-kind, types-below, node-type}
 use Rattle.semantics.specs.Check.{passes, _or-else_, require, each, same-sort, is-child, node-fault}
 use Rattle.semantics.proofs.Passed.{or-else-passes, require-passes, each-passes}
 use Rattle.semantics.proofs.Tests.{past}
@@ -39,7 +39,7 @@ last-value k h l h₄ h₅ h₆ h₇ h₈ h₉ h₁₀ = le-antisymm (omega arit
 
 -- Of the kinds only 1 has all the bits of a variable.
 one-variable : ℕ → Bool
-one-variable k = ltb (bits (kind-of k) 0) 768 || eqb k 1
+one-variable k = ltb (bits (kind-of k) 0) 1536 || eqb k 1
 
 variable-number : (k : ℕ) → kind-of k ≡ variable → k ≡ 1
 unfolding one-variable each require _or-else_ kind-of
@@ -61,7 +61,7 @@ value-wanted place = refl
 value-wanted value = refl
 value-wanted neither = refl
 
-place-wanted : (s : Sort) → eqb (sort-number s) 512 ≡ same-sort s place
+place-wanted : (s : Sort) → eqb (sort-number s) 1024 ≡ same-sort s place
 place-wanted place = refl
 place-wanted value = refl
 place-wanted neither = refl
@@ -86,32 +86,32 @@ module _ {t notes : Words} {n : ℕ} (h : Noted-to t notes n) (x : ℕ) (less : 
       no true e = sym e
       no false e = refl
 
-  is : word notes x ≡ note t x
+  is : word notes x ≡ note edition-1 t x
   is = h .noted x less
 
   pub child-type : word notes x % 128 ≡ node-type t x
-  child-type = rw is (type-noted t x small)
+  child-type = rw is (type-noted edition-1 t x small)
 
   pub child-same : word notes x % 128 ≡ word (types-below t n) x
   child-same = child-type ∙ sym (types-at t n x less)
 
   module _ (s : Sort) {wanted : ℕ} (w : wanted ≡ sort-number s) where
-    pub value-test : word notes x < 512 → eqb wanted 0 ≡ is-child t s n x
+    pub value-test : word notes x < 1024 → eqb wanted 0 ≡ is-child t s n x
     unfolding is-child
-    value-test l = rw (w, lt-ltb x n less, only-value (sort-of (node-kind t x)) sorted (λ e. absurd (omega (arith, is, place-high t x small e)))) (value-wanted s)
+    value-test l = rw (w, lt-ltb x n less, only-value (sort-of (node-kind t x)) sorted (λ e. absurd (omega (arith, is, place-high edition-1 t x small e)))) (value-wanted s)
 
-    pub place-test : 512 ≤ word notes x → eqb wanted 512 ≡ is-child t s n x
+    pub place-test : 1024 ≤ word notes x → eqb wanted 1024 ≡ is-child t s n x
     unfolding is-child
-    place-test l = rw (w, lt-ltb x n less, place-noted t x small (rw (← is) l)) (place-wanted s)
+    place-test l = rw (w, lt-ltb x n less, place-noted edition-1 t x small (rw (← is) l)) (place-wanted s)
 
   -- The bits of a read of place x.
   pub read-bits : sort-of (node-kind t x) ≡ place → read-bit (word notes x) ≡ bits read (item t nodes x 0)
   unfolding note node-kind kind-of
-  read-bits s = go (ℕ-discrete (item t nodes x 0) 1) (ℕ-discrete (note t x / 256 % 2) 1)
+  read-bits s = go (ℕ-discrete (item t nodes x 0) 1) (ℕ-discrete (note edition-1 t x / 512 % 2) 1)
     where
-      go : Dec (item t nodes x 0 ≡ 1) → Dec (note t x / 256 % 2 ≡ 1) → read-bit (word notes x) ≡ bits read (item t nodes x 0)
-      go (yes e) z = let v : word notes x ≡ node-type t x + 768 = is ∙ rw e refl in rw e (omega (arith, small))
-      go (no e) (yes z) = absurd (e (variable-number (item t nodes x 0) (variable-noted t x small s z)))
+      go : Dec (item t nodes x 0 ≡ 1) → Dec (note edition-1 t x / 512 % 2 ≡ 1) → read-bit (word notes x) ≡ bits read (item t nodes x 0)
+      go (yes e) z = let v : word notes x ≡ node-type t x + 1536 = is ∙ rw e refl in rw e (omega (arith, small))
+      go (no e) (yes z) = absurd (e (variable-number (item t nodes x 0) (variable-noted edition-1 t x small s z)))
       go (no e) (no z) = rw (is, ne-eqb (item t nodes x 0) 1 e) (omega arith)
 
 pub child-late : (t : Words) (s : Sort) (n x : ℕ) → n ≤ x → false ≡ is-child t s n x

@@ -5,7 +5,7 @@ use mathlib.Core.Path.{_≡_}
 use mathlib.Core.List.{[]}
 use lib.ListN.{length, set}
 use Rattle.semantics.specs.Words.{Words, word}
-use Rattle.semantics.specs.Table.{records, fields, pointers, variables, nodes, count-place, count, item-place, known-type, first-field, children}
+use Rattle.semantics.specs.Table.{edition-1, records, fields, pointers, variables, nodes, count-place, count, item-place, known-type, first-field, children}
 use Rattle.semantics.specs.Check.{Verdict, passes, refused, each, node-fault, occurrences}
 use Rattle.semantics.proofs.Passed.{Types-passed}
 use Rattle.layout.specs.Layout.{verdict-of, Stands}
@@ -21,7 +21,7 @@ use Rattle.nodes.specs.declared.Typed.the-variants.{Is, Refused}
 pub record Noted-to (t notes : Words) (n : ℕ) : Type 0 where
   pub types-pass : Types-passed t
   pub nodes-pass : each n (node-fault t) ≡ passes
-  pub noted : (i : ℕ) → i < n → word notes i ≡ note t i
+  pub noted : (i : ℕ) → i < n → word notes i ≡ note edition-1 t i
 
 -- Node n stands at place.
 pub record Placed (t : Words) (n place : ℕ) : Type 0 where
@@ -109,5 +109,5 @@ pub record Told (x : Typed) (mark n : ℕ) (l : Words) (r : answer.Verdict) (not
 -- The whole check of node n: where it passes, its note is added and its uses of children are counted; where it doesn't, no word has changed.
 pub record Noted (t : Words) (n : ℕ) (r : answer.Verdict) (notes notes′ used used′ : Words) : Type 0 where
   pub verdict : verdict-of r ≡ node-fault t n
-  pub noted : notes′ ≡ by-verdict (node-fault t n) (set notes n (note t n)) notes
+  pub noted : notes′ ≡ by-verdict (node-fault t n) (set notes n (note edition-1 t n)) notes
   pub counted : Counted used used′ (by-verdict (node-fault t n) (children t n) [])

@@ -60,7 +60,7 @@ pub fn type_of(notes: &Notes, x: u32) -> u32
     requires { ⌜ x < 512 ⌝ }
     ensures { λ r. ⌜ r ≡ word (now (notes .entry)) x % 128 ⌝ }
 {
-    notes[index(x)] % note::CONSTANT
+    notes[index(x)] % note::BOUNDS
 }
 
 // 7 for an a that is no child of the sort wanted, then for a b that isn't 0.
@@ -290,7 +290,7 @@ pub fn count_use(uses: &mut Uses, x: u32)
 
 fn enter(x: Typed, notes: &mut Notes, n: usize, mark: u32) -> Verdict
     requires { ⌜ (n < 512) × Small x × (length (now notes) ≡ 512) ⌝ }
-    requires { ⌜ mark ≤ 1024 ⌝ }
+    requires { ⌜ mark ≤ 2048 ⌝ }
     ensures { λ r. ⌜ ((used : Words) → Told x mark n [] r (now (notes .entry)) (now (notes .exit)) used used) ⌝ }
 {
     match x {
@@ -304,7 +304,7 @@ fn enter(x: Typed, notes: &mut Notes, n: usize, mark: u32) -> Verdict
 
 fn with_child(x: Typed, notes: &mut Notes, uses: &mut Uses, n: usize, mark: u32, a: u32) -> Verdict
     requires { ⌜ (n < 512) × Small x × (length (now notes) ≡ 512) × (typed-verdict x ≡ passes → Countable (now uses) a) ⌝ }
-    requires { ⌜ mark ≤ 1024 ⌝ }
+    requires { ⌜ mark ≤ 2048 ⌝ }
     ensures { λ r. ⌜ Told x mark n (a ∷ []) r (now (notes .entry)) (now (notes .exit)) (now (uses .entry)) (now (uses .exit)) ⌝ }
 {
     if let Verdict::Refused(r, p) = enter(x, notes, n, mark) {
@@ -324,7 +324,7 @@ fn with_children(
     b: u32,
 ) -> Verdict
     requires { ⌜ (n < 512) × Small x × (length (now notes) ≡ 512) × (typed-verdict x ≡ passes → Countable-both (now uses) a b) ⌝ }
-    requires { ⌜ mark ≤ 1024 ⌝ }
+    requires { ⌜ mark ≤ 2048 ⌝ }
     ensures { λ r. ⌜ Told x mark n (a ∷ b ∷ []) r (now (notes .entry)) (now (notes .exit)) (now (uses .entry)) (now (uses .exit)) ⌝ }
 {
     if let Verdict::Refused(r, p) = with_child(x, notes, uses, n, mark, a) {

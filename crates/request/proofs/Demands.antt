@@ -31,7 +31,7 @@ pub record Sized (xs : List ℕ) : Type 0 where
   pub memory : getD xs 0 0 ≤ 4096
   pub inputs : getD xs 1 0 ≤ 64
   pub enough : 2 + getD xs 1 0 ≤ length xs
-  pub table : length xs ≤ 2 + getD xs 1 0 + 2470
+  pub table : length xs ≤ 2 + getD xs 1 0 + 2472
 
 no-demand : (xs : List ℕ) → (Sized xs → ⊥) → demand-of xs ≡ input
 unfolding demand-of demand-after
@@ -40,11 +40,11 @@ no-demand (m ∷ []) deny = refl
 no-demand (m ∷ (n ∷ rest)) deny =
     refuse _ _ _
     (λ e.
-    let q = all-true (leb m 4096) (leb n 64) (leb n (length rest)) (leb (length (drop n rest)) 2470) e in
+    let q = all-true (leb m 4096) (leb n 64) (leb n (length rest)) (leb (length (drop n rest)) 2472) e in
     let d = leb-true n (length rest) (q .2) in
-    let f = leb-true (length (drop n rest)) 2470 (q .3) in
+    let f = leb-true (length (drop n rest)) 2472 (q .3) in
     let enough : 2 + n ≤ length (m ∷ (n ∷ rest)) = omega arith in
-    let table : length (m ∷ (n ∷ rest)) ≤ 2 + n + 2470 = omega (arith, length-drop n rest) in
+    let table : length (m ∷ (n ∷ rest)) ≤ 2 + n + 2472 = omega (arith, length-drop n rest) in
     deny
     (record {
       both = omega arith;
@@ -60,7 +60,7 @@ a-demand [] z = absurd (let h = z .both in omega arith)
 a-demand (m ∷ []) z = absurd (let h = z .both in omega arith)
 a-demand (m ∷ (n ∷ rest)) z =
     let d : n ≤ length rest = (let h = z .enough in omega arith) in
-    let f : length (drop n rest) ≤ 2470 = (let h = z .table in omega (arith, length-drop n rest)) in
+    let f : length (drop n rest) ≤ 2472 = (let h = z .table in omega (arith, length-drop n rest)) in
     simp (le-leb _ _ (z .memory), le-leb _ _ (z .inputs), le-leb _ _ d, le-leb _ _ f)
     (ap (run m (take n rest)) (drop-drop n 2 (m ∷ (n ∷ rest))))
 
@@ -69,7 +69,7 @@ too-long : (t : Bool) (xs : List ℕ) → (if t then holds xs else malformed) �
 too-long true xs e = absurd (let z : _≡_ {A = ℕ} 0 1 = cc in omega arith)
 too-long false xs e = refl
 
-no-demand-long : (room : ℕ) (c : Contents) → 2536 ≤ room → within room c ≡ malformed → demand c ≡ input
+no-demand-long : (room : ℕ) (c : Contents) → 2538 ≤ room → within room c ≡ malformed → demand c ≡ input
 unfolding demand within
 no-demand-long room malformed h e = refl
 no-demand-long room (holds xs) h e =
@@ -94,7 +94,7 @@ module _ (list : List ℕ) (s : Scanner) where
     pub memory : getD list 0 0 ≤ 4096
     pub inputs : getD list 1 0 ≤ 64
     pub enough : 2 + getD list 1 0 ≤ s .count
-    pub table : s .count ≤ 2 + getD list 1 0 + 2470
+    pub table : s .count ≤ 2 + getD list 1 0 + 2472
 
   stored-bad : s .state ≡ 2 → stored list s ≡ malformed
   unfolding stored
@@ -108,7 +108,7 @@ module _ (list : List ℕ) (s : Scanner) where
   unfolding stored
   stored-short good n = rw (ne-eqb _ _ good, lt-leb _ _ n)
 
-  text-demand : (text : List ℕ) → 2536 ≤ length list → Finished text list s → demand (stored list s) ≡ demand (numbers text)
+  text-demand : (text : List ℕ) → 2538 ≤ length list → Finished text list s → demand (stored list s) ≡ demand (numbers text)
   unfolding demand
   text-demand text h f = go (eqb (s .state) 2) refl
     where

@@ -16,11 +16,11 @@ pub data Demand : Type 0 where
   run : (memory : ℕ) (inputs table : List ℕ) → Demand
   input : Demand
 
--- "memory length (at most 4,096), input count (at most 64), inputs, then the table (at most 2,470 words)"; "one with fewer inputs than
--- their count" is other text.
+-- "memory length (at most 4,096), input count (at most 64), inputs, then the table"; "one with fewer inputs than their count" is other text. Request 8:
+-- "the bench program takes tables up to 2,472 words, marked or not".
 unfoldable pub demand-after : (memory count : ℕ) → List ℕ → Demand
 demand-after memory count rest =
-    if leb memory 4096 && leb count 64 && leb count (length rest) && leb (length (drop count rest)) 2470
+    if leb memory 4096 && leb count 64 && leb count (length rest) && leb (length (drop count rest)) 2472
     then run memory (take count rest) (drop count rest)
     else input
 
@@ -59,7 +59,7 @@ pub record Parts (list : List ℕ) (s : Scanner) (memory from : ℕ) : Type 0 wh
 -- `Request::of` a list of numbers and a scanner, whatever they are.
 pub record Requested (list : List ℕ) (s : Scanner) (r : Request) : Type 0 where
   pub does : r ≡ request-of (demand (stored list s))
-  -- At the end of a text it is what the text asks for: no text that asks for a run has more than 2 + 64 + 2,470 numbers.
-  pub meets : (text : List ℕ) → 2536 ≤ length list → Finished text list s → demand (stored list s) ≡ demand (numbers text)
+  -- At the end of a text it is what the text asks for: no text that asks for a run has more than 2 + 64 + 2,472 numbers.
+  pub meets : (text : List ℕ) → 2538 ≤ length list → Finished text list s → demand (stored list s) ≡ demand (numbers text)
   -- So the parts lie in the list, and the memory in the program's own.
   pub parts : (memory from : ℕ) → r ≡ Run memory from → Parts list s memory from

@@ -15,7 +15,7 @@ impl Request {
 
     const INPUTS: u32 = 64;
 
-    const TABLE: usize = 2470;
+    const TABLE: usize = 2472;
 
     // The memory's length, the input count, the inputs, then the table, as a scanner that has finished a text has stored them.
     pub fn of(numbers: &[u32], s: Scanner) -> Request

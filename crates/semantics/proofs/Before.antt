@@ -7,9 +7,9 @@ use native.Mathlib.Omega.{arith}
 use borrow.Author.Tests.{leb-true, le-leb}
 use lib.Dec.{leb}
 use Rattle.semantics.specs.Words.{Words, if_then_else_}
-use Rattle.semantics.specs.Table.{commands, count, is-pointer, node-type}
+use Rattle.semantics.specs.Table.{edition, commands, count, node-type}
 use Rattle.semantics.specs.Check.{command-place, command-value}
-use Rattle.semantics.specs.Syntax.{Place, Variable, Deref, Field, NoPlace, Value, Number, Sum, Read, Address, Cast, Malloc, Copy, NoValue, place-of, value-of}
+use Rattle.semantics.specs.Syntax.{Place, Variable, Deref, Field, NoPlace, Value, Number, Sum, Read, Address, Cast, Malloc, Copy, NoValue, moves-bounds, place-of, value-of}
 use Rattle.semantics.specs.Rules.{Datum, unbounded, followed, Location, variable-location, tested, State, noted, Outcome, ok, fails, no-room, no-rule, bind, enough-left, check-of, checked, pointed, deref-step, field-step, read-step, address-step, sum-step, cast-step, malloc-step, move-step, copy-step, place-at, value-at, assign-step, assign}
 use Rattle.semantics.specs.Run.{command, Ending, done, abort, out-of-memory, stuck, Run, ended, after-command, then-command, commands-below}
 use Rattle.semantics.proofs.Tests.{and-true, and-both, enough-true, enough-false}
@@ -66,7 +66,7 @@ unfoldable mutual
 
   pub value-before : Value → State → Outcome Datum
   value-before (Number n x) s = ok (unbounded x) s
-  value-before (Sum n step a b) s = bind (value-before a s) (λ p s′. bind (value-before b s′) (sum-step step p))
+  value-before (Sum n either step a b) s = bind (value-before a s) (λ p s′. bind (value-before b s′) (sum-step either step p))
   value-before (Read n pointer p) s = bind (place-before p s) (read-step pointer)
   value-before (Address n p) s = bind (place-before p s) address-step
   value-before (Cast n keeps v) s = bind (value-before v s) (cast-step keeps)
@@ -77,7 +77,7 @@ unfoldable mutual
 abbrev pub command-before : Words → ℕ → State → Outcome (Unit {0})
 command-before t c s =
     bind (place-before (place-of t (command-place t c)) s)
-    (λ l s′. bind (value-before (value-of t (command-value t c)) s′) (assign-step (is-pointer (node-type t (command-place t c))) l))
+    (λ l s′. bind (value-before (value-of t (command-value t c)) s′) (assign-step (moves-bounds (edition t) (node-type t (command-place t c))) l))
 
 abbrev pub then-before : Words → ℕ → Ending → State → Run
 then-before t c done s = after-command c (command-before t c s)

@@ -9,9 +9,9 @@ use lib.Dec.{leb, eqb}
 use lib.ListN.{length}
 use Rattle.semantics.specs.Words.{Words, all-below, if_then_else_}
 use Rattle.semantics.specs.Registers.{register-count, register-variable, register-length, register-words}
-use Rattle.semantics.specs.Table.{is-pointer, node-type}
+use Rattle.semantics.specs.Table.{edition, node-type}
 use Rattle.semantics.specs.Check.{command-place, command-value}
-use Rattle.semantics.specs.Syntax.{place-of, value-of, Place, Variable, Deref, Field, NoPlace, Value, Number, Sum, Read, Address, Cast, Malloc, Copy, NoValue}
+use Rattle.semantics.specs.Syntax.{moves-bounds, place-of, value-of, Place, Variable, Deref, Field, NoPlace, Value, Number, Sum, Read, Address, Cast, Malloc, Copy, NoValue}
 use Rattle.semantics.specs.Rules.{Datum, unbounded, block-pointer, Location, Bounds-check, Event, loaded, tested, State, noted, Outcome, ok, fails, no-room, no-rule, bind, checked, deref-step, field-step, touchable, read-step, cast-step, with-block, malloc-step, move-step, copy-step, place-at, value-at, assign-step, assign}
 use Rattle.semantics.specs.Run.{cleared, with-register, registers-below, begin, command, Ending, done, abort, out-of-memory, stuck, ended, after-command, then-command, commands-below}
 use Rattle.semantics.specs.Explain.{Passed, All-passed, First-not-passed}
@@ -106,7 +106,7 @@ mutual
 
   value-tested : (v : Value) (s : State) → Tested (s .log) (value-at v s)
   value-tested (Number n x) s = tested-ok (λ h. h)
-  value-tested (Sum n step a b) s = bind-tested (value-tested a s) (λ p s′. bind-tested (value-tested b s′) (λ x s″. tested-ok (λ h. h)))
+  value-tested (Sum n either step a b) s = bind-tested (value-tested a s) (λ p s′. bind-tested (value-tested b s′) (λ x s″. tested-ok (λ h. h)))
   value-tested (Read n pointer p) s =
       bind-tested (place-tested p s) (λ l s′. touched (touchable s′ (l .at)) _ s′ (noted (loaded (l .at) (l .access)) s′) one-load)
   value-tested (Address n p) s = bind-tested (place-tested p s) (λ l s′. tested-ok (λ h. h))
@@ -118,11 +118,11 @@ mutual
 pub command-tested : (t : Words) (c : ℕ) (s : State) → Tested (s .log) (command t c s)
 unfolding command assign assign-step
 command-tested t c s =
-    let pointer = is-pointer (node-type t (command-place t c)) in
+    let bounds = moves-bounds (edition t) (node-type t (command-place t c)) in
     bind-tested (place-tested (place-of t (command-place t c)) s)
     (λ l s′.
     bind-tested (value-tested (value-of t (command-value t c)) s′)
-    (λ x s″. touched (touchable s″ (l .at)) tt s″ _ (λ h. one-store (rw (log-kept pointer (l .at) x s″) h))))
+    (λ x s″. touched (touchable s″ (l .at)) tt s″ _ (λ h. one-store (rw (log-kept bounds (l .at) x s″) h))))
 
 pub stopped-by : {first : List Event} {A : Type 0} {o : Outcome A} {x : Bounds-check} {s : State} → Tested first o → o ≡ fails x s → Stopped-by x first (s .log)
 stopped-by (tested-ok h) q = absurd (ok-not q)

@@ -10,7 +10,7 @@ use borrow.Author.Tests.{lt-ltb}
 use lib.Dec.{ltb}
 use Rattle.semantics.specs.Words.{Words}
 use Rattle.semantics.specs.Table.{records, fields, pointers, variables, nodes, commands, count, item-place, Sort, Operand, place-child, value-child, operand-a, operand-b, node-kind, node-a, node-b, child, children}
-use Rattle.semantics.specs.Check.{Verdict, passes, refused, _or-else_, require, each, section-fault, words-over, record-fault, field-sum-fault, field-fault, pointer-fault, variable-fault, is-child, operand-fault, node-fault, command-fault, use-fault, check}
+use Rattle.semantics.specs.Check.{Verdict, passes, refused, _or-else_, require, each, edition-fault, section-fault, words-over, record-fault, field-sum-fault, field-fault, pointer-fault, variable-fault, is-child, operand-fault, node-fault, command-fault, use-fault, check}
 use Rattle.semantics.proofs.Tests.{and-true, and-both, or-true}
 use Rattle.semantics.proofs.Passed.{require-passes, each-passes, Passed, section-ok}
 use Rattle.semantics.proofs.Trees.{node-ok, is-child-true}
@@ -90,7 +90,8 @@ node-fault-before most t n = node-fault t n or-else require (not (deeper t most 
 -- With 512 for `most` this is the check as it was.
 unfoldable pub check-before : ℕ → Words → Verdict
 check-before most t =
-    each 6 (section-fault t)
+    edition-fault t
+    or-else each 6 (section-fault t)
     or-else words-over t
     or-else each (count t records) (record-fault t)
     or-else field-sum-fault t
@@ -181,4 +182,5 @@ module _ (t : Words) (sections : each 6 (section-fault t) ≡ passes) where
 pub check-as-before : (t : Words) → check-before 512 t ≡ check t
 unfolding check-before check
 check-as-before t =
-    or-else-same (each 6 (section-fault t)) (λ s. rw (each-same (count t nodes) (node-fault t) (node-fault-before 512 t) (node-same t s)))
+    or-else-same (edition-fault t)
+    (λ e. or-else-same (each 6 (section-fault t)) (λ s. rw (each-same (count t nodes) (node-fault t) (node-fault-before 512 t) (node-same t s))))

@@ -1,13 +1,12 @@
 -- The plain equations of types and trees. The definitions make lists that grow with the node number; where a node's children are before it, as in
 -- every table that passes, this is what they come to.
 use Prim.Native.Nat.{ℕ, _<_}
-use mathlib.Core.Bool.{_&&_}
 use mathlib.Core.Path.{_≡_, refl, ap, ap₂}
 use mathlib.Core.List.{_++_, List·Memᴰ, List·Memᴰ·head, List·Memᴰ·tail}
 use lib.ListN.{getD}
 use Rattle.semantics.specs.Words.{Words, word}
-use Rattle.semantics.specs.Table.{pointers, count, is-pointer, target, pointed-record, entry-type, entry-below, field-type, field-offset, field-count, Kind, variable, deref, field, constant, sum, read, address, cast, size, malloc, copy, unknown, size-of, operand-a, operand-b, node-kind, node-a, node-b, child, children, type-by-kind, type-rule, types-below, node-type}
-use Rattle.semantics.specs.Syntax.{Tree, senseless, as-place, as-value, place, value, Deref, Field, Sum, Read, Address, Cast, Malloc, Copy, step-of, tree-by-kind, tree-rule, trees-below, tree-of}
+use Rattle.semantics.specs.Table.{edition, pointers, count, target, pointed-record, entry-type, entry-below, field-type, field-offset, field-count, Kind, variable, deref, field, constant, sum, read, address, cast, size, malloc, copy, unknown, size-of, operand-a, operand-b, node-kind, node-a, node-b, child, children, type-by-kind, type-rule, types-below, node-type}
+use Rattle.semantics.specs.Syntax.{Tree, senseless, as-place, as-value, place, value, Deref, Field, Sum, Read, Address, Cast, Malloc, Copy, step-of, moves-bounds, keeps-bounds, either-bounds, tree-by-kind, tree-rule, trees-below, tree-of}
 use Rattle.semantics.proofs.Trees.{types-at, trees-at}
 
 -- Each child of node n is a node before it.
@@ -53,10 +52,10 @@ tree-equation t n before = go (node-kind t n) (node-a t n) (node-b t n) before
         one (λ y. place (Field n (field-offset t (pointed-record t (node-type t a)) b) (field-count t (pointed-record t (node-type t a)) b) (as-value y))) a (h a (List·Memᴰ·head refl))
     go constant a b h = refl
     go sum a b h =
-        two (λ y z. value (Sum n (step-of t (node-type t a)) (as-value y) (as-value z))) a b (h a (List·Memᴰ·head refl)) (h b (List·Memᴰ·tail (List·Memᴰ·head refl)))
-    go read a b h = one (λ y. value (Read n (is-pointer (node-type t n)) (as-place y))) a (h a (List·Memᴰ·head refl))
+        two (λ y z. value (Sum n (either-bounds (edition t)) (step-of t (node-type t a)) (as-value y) (as-value z))) a b (h a (List·Memᴰ·head refl)) (h b (List·Memᴰ·tail (List·Memᴰ·head refl)))
+    go read a b h = one (λ y. value (Read n (moves-bounds (edition t) (node-type t n)) (as-place y))) a (h a (List·Memᴰ·head refl))
     go address a b h = one (λ y. value (Address n (as-place y))) a (h a (List·Memᴰ·head refl))
-    go cast a b h = one (λ y. value (Cast n (is-pointer (node-type t a) && is-pointer b) (as-value y))) a (h a (List·Memᴰ·head refl))
+    go cast a b h = one (λ y. value (Cast n (keeps-bounds (edition t) (node-type t a) b) (as-value y))) a (h a (List·Memᴰ·head refl))
     go size a b h = refl
     go malloc a b h = one (λ y. value (Malloc n (as-value y))) a (h a (List·Memᴰ·head refl))
     go copy a b h =

@@ -1,12 +1,13 @@
 -- Each table of examples computes to what it says: those that document 01 prints and that requests 1 and 2 ask for (specs/Examples.antt), and
 -- those that hold each sentence (specs/RefusalExamples.antt, CallExamples.antt, RunExamples.antt, TreeExamples.antt, ExplainExamples.antt, LeftExamples.antt,
--- CopyExamples.antt). Last the check as it was before request 7 (DepthExamples.antt).
+-- CopyExamples.antt, MarkExamples.antt, EditionExamples.antt). Last the check as it was before request 7 (DepthExamples.antt).
+use mathlib.Core.Bool.{true, false}
 use mathlib.Core.Path.{_≡_, refl}
 use mathlib.Core.List.{[], _∷_, map}
 use Rattle.semantics.specs.Words.{zeroed, words-from, moved, sum-below, any-below, all-below, seen-before, least-below, grow}
-use Rattle.semantics.specs.Table.{count-place, count, item-place, item, is-pointer, known-type, known-target, target, points-to-type, points-to-record, pointed-record, entry-below, field-total, first-field, field-type, field-count, field-offset, size-of, kind-of, node-kind, children, type-rule, types-below, node-type}
+use Rattle.semantics.specs.Table.{edition, count-place, count, item-place, item, is-pointer, known-type, known-target, target, points-to-type, points-to-record, pointed-record, entry-below, field-total, first-field, field-type, field-count, field-offset, size-of, kind-of, node-kind, children, type-rule, types-below, node-type}
 use Rattle.semantics.specs.Registers.{register-place, register-start}
-use Rattle.semantics.specs.Check.{_or-else_, require, each, section-fault, words-over, record-fault, field-sum-fault, field-fault, pointer-fault, variable-fault, is-child, node-fault, command-fault, uses, use-fault, check, lengths-fit, input-fits, input-fault, arguments-fault, extent-fault, names-pointer, name-fault, room-fault, registers-fault, call-fault}
+use Rattle.semantics.specs.Check.{_or-else_, require, each, edition-fault, section-fault, words-over, record-fault, field-sum-fault, field-fault, pointer-fault, variable-fault, is-child, node-fault, command-fault, uses, use-fault, check, lengths-fit, input-fits, input-fault, arguments-fault, extent-fault, names-pointer, name-fault, room-fault, registers-fault, call-fault}
 use Rattle.semantics.specs.Syntax.{step-of, tree-rule, trees-below, tree-of, place-of, value-of}
 use Rattle.semantics.specs.Rules.{words-left, enough-left, checked, deref-step, field-step, touchable, read-step, malloc-step, each-noted, move-step, copy-step, place-at, value-at, assign-step, assign}
 use Rattle.semantics.specs.Run.{cleared, with-register, registers-below, begin, command, commands-below, run, call}
@@ -19,13 +20,15 @@ use Rattle.semantics.specs.RunExamples.{memory-runs, order-runs, place-r
 use Rattle.semantics.specs.ExplainExamples.{Telling, tell, reasons, nodes-told, first-words, explained, whole-calls, logged, logs, reasoned, bare-checks, some-words, starts, at-ending, endings, at-endings}
 use Rattle.semantics.specs.LeftExamples.{counted, numbers-left, left-runs}
 use Rattle.semantics.specs.CopyExamples.{shifted, shifts, copy-runs, overlaps, copy-orders, copies-told}
-use Rattle.semantics.specs.TreeExamples.{every-kind, roots, trees, small, worked, values, copies, copies-outcomes, stepped, steps, registered, wild, wild-runs}
+use Rattle.semantics.specs.MarkExamples.{mark, marked-verdicts, marks, marked-requests, marked-refusals, marked-runs}
+use Rattle.semantics.specs.EditionExamples.{int-runs, sum-runs, block-runs, added, additions, reads-and-casts, reads-and-casts-outcomes, assignments, assignments-outcomes, editions-told}
+use Rattle.semantics.specs.TreeExamples.{every-kind, roots, trees-of, small, worked, values, copies, copies-outcomes, stepped, steps, registered, wild, wild-runs}
 use Rattle.semantics.proofs.Depth.{deeper, node-fault-before, check-before}
 use Rattle.semantics.proofs.DepthExamples.{measured, depths, judged-before, verdicts-before}
 
 -- To unfold this is to unfold every definition that a call comes down to.
 computed : Example → Example
-unfolding observed zeroed words-from moved sum-below any-below all-below seen-before least-below grow count-place count item-place item is-pointer known-type known-target target points-to-type points-to-record pointed-record entry-below field-total first-field field-type field-count field-offset size-of kind-of node-kind children type-rule types-below node-type _or-else_ require each section-fault words-over record-fault field-sum-fault field-fault pointer-fault variable-fault is-child node-fault command-fault uses use-fault check lengths-fit input-fits input-fault arguments-fault register-place register-start extent-fault names-pointer name-fault room-fault registers-fault call-fault step-of tree-rule trees-below tree-of place-of value-of words-left enough-left checked deref-step field-step touchable read-step malloc-step each-noted move-step copy-step place-at assign-step assign cleared registers-below begin command commands-below run call
+unfolding observed zeroed words-from moved sum-below any-below all-below seen-before least-below grow edition count-place count item-place item is-pointer known-type known-target target points-to-type points-to-record pointed-record entry-below field-total first-field field-type field-count field-offset size-of kind-of node-kind children type-rule types-below node-type _or-else_ require each edition-fault section-fault words-over record-fault field-sum-fault field-fault pointer-fault variable-fault is-child node-fault command-fault uses use-fault check lengths-fit input-fits input-fault arguments-fault register-place register-start extent-fault names-pointer name-fault room-fault registers-fault call-fault step-of tree-rule trees-below tree-of place-of value-of words-left enough-left checked deref-step field-step touchable read-step malloc-step each-noted move-step copy-step place-at assign-step assign cleared registers-below begin command commands-below run call
 computed x = observed x
 
 -- ---- Document 01's own, registers, and steps along records
@@ -120,8 +123,8 @@ pub touches-have-rules-so : map touched touches ≡ touches
 unfolding computed touched touches
 touches-have-rules-so = refl
 
-pub trees-grow-so : map (tree-of every-kind) roots ≡ trees
-unfolding computed trees
+pub trees-grow-so : map (tree-of every-kind) roots ≡ trees-of false
+unfolding computed trees-of
 trees-grow-so = refl
 
 pub registers-are-set-so : with-register 1 0 [] small ∷ with-register 1 1 (70 ∷ []) small ∷ with-register 1 2 (70 ∷ 80 ∷ []) small ∷ [] ≡ registered
@@ -214,6 +217,60 @@ copy-orders-end-so = refl
 pub copies-are-told-so : map tell copies-told ≡ copies-told
 unfolding accounted computed copies-told
 copies-are-told-so = refl
+
+-- ---- Editions
+
+pub marked-verdicts-are-given : map judged marked-verdicts ≡ marked-verdicts
+unfolding computed judged verdicts marked-verdicts
+marked-verdicts-are-given = refl
+
+pub marks-are-judged-so : map judged marks ≡ marks
+unfolding computed judged verdicts marks
+marks-are-judged-so = refl
+
+pub marked-requests-are-judged-so : map answered marked-requests ≡ marked-requests
+unfolding computed answered arguments register-lists marked-requests
+marked-requests-are-judged-so = refl
+
+pub marked-refusals-are-given : map observed marked-refusals ≡ marked-refusals
+unfolding computed refusals refused-lists unequal-lists marked-refusals
+marked-refusals-are-given = refl
+
+pub marked-runs-end-so : map observed marked-runs ≡ marked-runs
+unfolding computed runs register-runs marked-runs
+marked-runs-end-so = refl
+
+pub int-runs-end-so : map observed int-runs ≡ int-runs
+unfolding computed int-runs
+int-runs-end-so = refl
+
+pub sum-runs-end-so : map observed sum-runs ≡ sum-runs
+unfolding computed sum-runs
+sum-runs-end-so = refl
+
+pub block-runs-end-so : map observed block-runs ≡ block-runs
+unfolding computed block-runs
+block-runs-end-so = refl
+
+pub additions-come-out-so : map added additions ≡ additions
+unfolding computed added additions
+additions-come-out-so = refl
+
+pub reads-and-casts-come-out-so : reads-and-casts ≡ reads-and-casts-outcomes
+unfolding computed reads-and-casts-outcomes
+reads-and-casts-come-out-so = refl
+
+pub assignments-come-out-so : assignments ≡ assignments-outcomes
+unfolding computed assignments-outcomes
+assignments-come-out-so = refl
+
+pub marked-trees-grow-so : map (tree-of (mark every-kind)) roots ≡ trees-of true
+unfolding computed trees-of
+marked-trees-grow-so = refl
+
+pub editions-are-told-so : map tell editions-told ≡ editions-told
+unfolding accounted computed editions-told
+editions-are-told-so = refl
 
 -- ---- The check as it was before request 7
 

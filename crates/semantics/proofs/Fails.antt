@@ -109,11 +109,11 @@ failing-places NoPlace s x s′ e = absurd (no-rule-not e)
 pub failing-values : (v : Value) (s : State) (x : Bounds-check) (s′ : State) → value-at v s ≡ fails x s′ → Value-fails s x s′ v
 unfolding value-at read-step
 failing-values (Number n i) s x s′ e = absurd (ok-not e)
-failing-values (Sum n step a b) s x s′ e = go (either (value-at a s) _ e)
+failing-values (Sum n flag step a b) s x s′ e = go (either (value-at a s) _ e)
   where
-    go : Either-fails (value-at a s) (λ p s₁. bind (value-at b s₁) (sum-step step p)) x s′ → Value-fails s x s′ (Sum n step a b)
+    go : Either-fails (value-at a s) (λ p s₁. bind (value-at b s₁) (sum-step flag step p)) x s′ → Value-fails s x s′ (Sum n flag step a b)
     go (first q) = sum-left q
-    go (second p s₁ q r) = sum-right p s₁ q (only-first (value-at b s₁) (sum-step step p) (λ d s₂ never. ok-not never) r)
+    go (second p s₁ q r) = sum-right p s₁ q (only-first (value-at b s₁) (sum-step flag step p) (λ d s₂ never. ok-not never) r)
 failing-values (Read n pointer p) s x s′ e = read-place (only-first (place-at p s) _ (λ l s₁. touched-not (touchable s₁ (l .at)) _ s₁ _) e)
 failing-values (Address n p) s x s′ e = address-place (only-first (place-at p s) _ (λ l s₁ never. ok-not never) e)
 failing-values (Cast n keeps v) s x s′ e = cast-child (only-first (value-at v s) _ (λ d s₁. cast-not keeps d s₁) e)

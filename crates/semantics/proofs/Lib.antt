@@ -23,3 +23,4 @@ pub mod Starts
 pub mod Causes
 pub mod Explain
 pub mod Before
+pub mod Editions

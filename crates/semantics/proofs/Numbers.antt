@@ -1,4 +1,4 @@
--- The numbers of the refusals. Request 7: 12 "isn't used again".
+-- The numbers of the refusals. Request 7: 12 "isn't used again". Request 8 adds 16.
 use Prim.Native.Nat.{ℕ, zero, suc}
 use mathlib.Core.Bool.{Bool, true, false, _||_, false≢true}
 use mathlib.Core.Path.{_≡_, refl}
@@ -9,15 +9,15 @@ use lib.Dec.{eqb}
 use lib.ListN.{length, replicate}
 use Rattle.semantics.specs.Words.{Words}
 use Rattle.semantics.specs.Table.{Operand, unused, variable-number, field-number, any-word, type-word, target-word, place-child, value-child, operand-a, operand-b, node-kind, node-a, node-b}
-use Rattle.semantics.specs.Check.{Verdict, passes, refused, _or-else_, require, each, section-fault, words-over, record-fault, field-sum-fault, field-fault, pointer-fault, variable-fault, operand-fault, node-fault, command-fault, use-fault, check, input-fault, arguments-fault, extent-fault, name-fault, room-fault, registers-fault, call-fault}
+use Rattle.semantics.specs.Check.{Verdict, passes, refused, _or-else_, require, each, edition-fault, section-fault, words-over, record-fault, field-sum-fault, field-fault, pointer-fault, variable-fault, operand-fault, node-fault, command-fault, use-fault, check, input-fault, arguments-fault, extent-fault, name-fault, room-fault, registers-fault, call-fault}
 use Rattle.semantics.specs.Run.{Answer, refusal, ending}
 use Rattle.semantics.specs.ExampleTables.{Judgement, Example}
 use Rattle.semantics.specs.Examples.{verdicts, refusals, refused-lists}
 use Rattle.semantics.proofs.Depth.{any-of, found}
 
--- "The check alone gives 1 to 9 .. or passes."
+-- "The check alone gives 1 to 9 .. or passes", and 16, which comes "before all others".
 abbrev pub of-check : Words
-of-check = 1 ∷ 2 ∷ 3 ∷ 4 ∷ 5 ∷ 6 ∷ 7 ∷ 8 ∷ 9 ∷ []
+of-check = 1 ∷ 2 ∷ 3 ∷ 4 ∷ 5 ∷ 6 ∷ 7 ∷ 8 ∷ 9 ∷ 16 ∷ []
 
 -- What a call gives beside them, for its lists, its inputs and its registers.
 abbrev pub of-arguments : Words
@@ -66,9 +66,10 @@ operand-so t n place-child x p = require-so _ 7 _ refl
 operand-so t n value-child x p = require-so _ 7 _ refl
 
 check-so : (t : Words) → Numbered of-check (check t)
-unfolding check section-fault words-over record-fault field-sum-fault field-fault pointer-fault variable-fault node-fault command-fault use-fault
+unfolding check edition-fault section-fault words-over record-fault field-sum-fault field-fault pointer-fault variable-fault node-fault command-fault use-fault
 check-so t =
-    or-else-so _ (each-so 6 (λ s. or-else-so _ (require-so _ 1 _ refl) (or-else-so _ (require-so _ 3 _ refl) (require-so _ 1 _ refl))))
+    or-else-so _ (require-so _ 16 _ refl)
+    (or-else-so _ (each-so 6 (λ s. or-else-so _ (require-so _ 1 _ refl) (or-else-so _ (require-so _ 3 _ refl) (require-so _ 1 _ refl))))
     (or-else-so _ (require-so _ 2 _ refl)
     (or-else-so _ (each-so _ (λ r. require-so _ 4 _ refl))
     (or-else-so _ (require-so _ 4 _ refl)
@@ -77,7 +78,7 @@ check-so t =
     (or-else-so _ (each-so _ (λ i. require-so _ 5 _ refl))
     (or-else-so _ (each-so _ node-so)
     (or-else-so _ (each-so _ (λ c. or-else-so _ (require-so _ 7 _ refl) (or-else-so _ (require-so _ 7 _ refl) (require-so _ 8 _ refl))))
-    (each-so _ (λ n. require-so _ 9 _ refl))))))))))
+    (each-so _ (λ n. require-so _ 9 _ refl)))))))))))
   where
     node-so : (n : ℕ) → Numbered of-check (node-fault t n)
     node-so n =

@@ -11,7 +11,7 @@ use lib.Dec.{leb, ltb, eqb}
 use lib.ListN.{length}
 use Rattle.semantics.specs.Words.{Words, word, sum-below}
 use Rattle.semantics.specs.Table.{records, fields, pointers, variables, nodes, commands, entry-words, limits, count-place, count, item, entry-type, known-type, known-target, target, points-to-type, points-to-record, record-target, pointed-record, field-total, first-field}
-use Rattle.semantics.specs.Check.{Verdict, passes, refused, _or-else_, require, each, section-fault, words-over, record-fault, field-sum-fault, field-fault, pointer-fault, variable-fault, node-fault, command-fault, use-fault, check}
+use Rattle.semantics.specs.Check.{Verdict, passes, refused, _or-else_, require, each, section-fault, words-over, record-fault, field-sum-fault, field-fault, pointer-fault, variable-fault, node-fault, command-fault, use-fault, edition-fault, check}
 use Rattle.semantics.proofs.Tests.{and-true, or-true}
 use Rattle.semantics.proofs.Lists.{sum-below-≤}
 
@@ -46,6 +46,7 @@ pub record Types-passed (t : Words) : Type 0 where
 
 -- All parts of the check.
 pub record Passed (t : Words) : Type 0 where
+  pub edition-passes : edition-fault t ≡ passes
   pub types : Types-passed t
   pub node-passes : (n : ℕ) → n < count t nodes → node-fault t n ≡ passes
   pub command-passes : (c : ℕ) → c < count t commands → command-fault t c ≡ passes
@@ -54,7 +55,8 @@ pub record Passed (t : Words) : Type 0 where
 pub passed : (t : Words) → check t ≡ passes → Passed t
 unfolding check
 passed t e =
-    let p0 = or-else-passes (each 6 (section-fault t)) _ e in
+    let p = or-else-passes (edition-fault t) _ e in
+    let p0 = or-else-passes (each 6 (section-fault t)) _ (p .1) in
     let p1 = or-else-passes (words-over t) _ (p0 .1) in
     let p2 = or-else-passes (each (count t records) (record-fault t)) _ (p1 .1) in
     let p3 = or-else-passes (field-sum-fault t) _ (p2 .1) in
@@ -64,6 +66,7 @@ passed t e =
     let p7 = or-else-passes (each (count t nodes) (node-fault t)) _ (p6 .1) in
     let p8 = or-else-passes (each (count t commands) (command-fault t)) _ (p7 .1) in
     record {
+      edition-passes = p .0;
       types = record {
         sections = each-passes 6 (section-fault t) (p0 .0);
         exact = p1 .0;

@@ -169,7 +169,7 @@ copy-copies n k p q s e =
 pub values-have-their-events : (v : Value) (s : State) (d : Datum) (s′ : State) → value-at v s ≡ ok d s′ → Gives s d s′ v
 unfolding value-at
 values-have-their-events (Number n x) s d s′ e = number-value (sym (same-state e))
-values-have-their-events (Sum n step a b) s d s′ e =
+values-have-their-events (Sum n either step a b) s d s′ e =
     let p = both (value-at a s) _ e in
     let x = both (value-at b (p .s₁)) _ (p .second) in
     sum-value (p .a) (x .a) (p .s₁) (p .first) (in-state (x .first) (same-state (x .second)))

@@ -261,8 +261,8 @@ module _ (s₀ s₀′ : State) (final : List Event) (read : (w : ℕ) (a : Acce
   unfolding read-step
   read-steady pointer l = choice (λ s. touchable s (l .at)) (same-touchable (l .at)) (load-steady pointer (l .at) (l .access)) ruleless
 
-  sum-steady : (step : ℕ) (p x : Datum) → Steady (sum-step step p x)
-  sum-steady step p x = answer _ (λ s s′ t. refl)
+  sum-steady : (either : Bool) (step : ℕ) (p x : Datum) → Steady (sum-step either step p x)
+  sum-steady either step p x = answer _ (λ s s′ t. refl)
 
   address-steady : (l : Location) → Steady (address-step l)
   address-steady l = answer _ (λ s s′ t. refl)
@@ -361,7 +361,7 @@ module _ (s₀ s₀′ : State) (final : List Event) (read : (w : ℕ) (a : Acce
 
     value-steady : (v : Value) → Steady (value-at v)
     value-steady (Number n x) = given (unbounded x)
-    value-steady (Sum n step a b) = bound (value-steady a) (λ p. bound (value-steady b) (sum-steady step p))
+    value-steady (Sum n either step a b) = bound (value-steady a) (λ p. bound (value-steady b) (sum-steady either step p))
     value-steady (Read n pointer p) = bound (place-steady p) (read-steady pointer)
     value-steady (Address n p) = bound (place-steady p) address-steady
     value-steady (Cast n keeps v) = bound (value-steady v) (cast-steady keeps)

@@ -12,7 +12,7 @@ use lib.ListN.{length, set, length-set}
 use lib.Seq.{getD-set-same, getD-set-other}
 use Rattle.semantics.specs.Words.{Words, word, moved, if_then_else_}
 use Rattle.semantics.specs.Syntax.{Place, Variable, Deref, Field, Value, Number, Sum, Read, Address, Cast, Malloc, Copy}
-use Rattle.semantics.specs.Rules.{Datum, unbounded, block-pointer, Access, Location, Event, loaded, stored, allocated, tested, State, noted, with-values, Outcome, ok, no-room, check-of, words-left, checked, pointed, pointed-step, deref-step, field-step, touchable, contents, read-step, cast-step, with-block, malloc-step, with-copy, move-step, copy-step, place-at, value-at, with-datum, assign-step, assign}
+use Rattle.semantics.specs.Rules.{Datum, unbounded, block-pointer, Access, Location, Event, loaded, stored, allocated, tested, State, noted, with-values, Outcome, ok, no-room, check-of, words-left, checked, pointed, pointed-step, deref-step, field-step, touchable, contents, read-step, bounds-from, cast-step, with-block, malloc-step, with-copy, move-step, copy-step, place-at, value-at, with-datum, assign-step, assign}
 use Rattle.semantics.specs.Safety.{variable, block, Held, Permitted, by-name, by-pointer, Allowed, Sound, absent, held}
 use Rattle.semantics.specs.Log.{Unwritten, Same-word}
 use Rattle.semantics.proofs.Tests.{and-both, Lies, inside as among, outside, lies, words-are-left, left-inside, check-enough, Check-made, check-passed, check-missed, check-made}
@@ -203,6 +203,16 @@ read-good {vars} {len} pointer l s inv good =
     kept true = record { sound = sound-later (tail (loaded (l .at) (l .access))) (inv .sound (l .at)) }
     kept false = record { sound = absent refl refl }
 
+-- A sum has its bounds from one of its operands, whichever the edition says.
+sum-sound : {vars : ℕ} {log : List Event} (either : Bool) (p x : Datum) → Sound vars log (p .base) (p .end) → Sound vars log (x .base) (x .end)
+    → Sound vars log (bounds-from either p x .base) (bounds-from either p x .end)
+sum-sound false p x left right = left
+sum-sound {vars} {log} true p x left right = go (eqb (p .end) 0)
+  where
+    go : (none : Bool) → Sound vars log ((if none then x else p) .base) ((if none then x else p) .end)
+    go true = right
+    go false = left
+
 cast-good : {vars len : ℕ} (keeps : Bool) (p : Datum) (s : State) → Inv vars len s → Datum-ok vars p s
     → Good vars len s (Datum-ok vars) (cast-step keeps p s)
 cast-good true p s inv good = good-ok inv now good
@@ -350,8 +360,8 @@ mutual
 
   pub data Value-ok (vars : ℕ) : Value → Type 0 where
     number-ok : {n x : ℕ} → Value-ok vars (Number n x)
-    sum-ok : {n step : ℕ} {a b : Value} → Value-ok vars a → Value-ok vars b → Value-ok vars (Sum n step a b)
-    read-ok : {n : ℕ} {pointer : Bool} {p : Place} → Place-ok vars p → Value-ok vars (Read n pointer p)
+    sum-ok : {n : ℕ} {either : Bool} {step : ℕ} {a b : Value} → Value-ok vars a → Value-ok vars b → Value-ok vars (Sum n either step a b)
+    read-ok : {n : ℕ} {bounds : Bool} {p : Place} → Place-ok vars p → Value-ok vars (Read n bounds p)
     address-ok : {n : ℕ} {p : Place} → Place-ok vars p → Value-ok vars (Address n p)
     cast-ok : {n : ℕ} {keeps : Bool} {v : Value} → Value-ok vars v → Value-ok vars (Cast n keeps v)
     malloc-ok : {n : ℕ} {v : Value} → Value-ok vars v → Value-ok vars (Malloc n v)
@@ -373,12 +383,12 @@ mutual
 
   pub value-good : {vars len : ℕ} {v : Value} → Value-ok vars v → (s : State) → Inv vars len s → Good vars len s (Datum-ok vars) (value-at v s)
   value-good number-ok s inv = good-ok inv now (record { sound = absent refl refl })
-  value-good (sum-ok a b) s inv =
+  value-good (sum-ok {either = either} a b) s inv =
       bind-good (value-good a s inv)
       (λ p s′ inv′ more good.
       bind-good (value-good b s′ inv′)
-      (λ x s″ inv″ more′ good′. good-ok inv″ now (record { sound = sound-later (more′ .more) (good .sound) })))
-  value-good (read-ok {pointer = b} p) s inv = bind-good (place-good p s inv) (λ l s′ inv′ more good. read-good b l s′ inv′ good)
+      (λ x s″ inv″ more′ good′. good-ok inv″ now (record { sound = sum-sound either p x (sound-later (more′ .more) (good .sound)) (good′ .sound) })))
+  value-good (read-ok {bounds = b} p) s inv = bind-good (place-good p s inv) (λ l s′ inv′ more good. read-good b l s′ inv′ good)
   value-good (address-ok p) s inv =
       bind-good (place-good p s inv) (λ l s′ inv′ more good. good-ok inv′ now (record { sound = held (good .bounds) }))
   value-good (cast-ok {keeps = k} v) s inv = bind-good (value-good v s inv) (λ p s′ inv′ more good. cast-good k p s′ inv′ good)

@@ -1,4 +1,4 @@
--- Document 01, "What is turned away", with what requests 1 and 6 add to it and without 12, which request 7 takes off: the refusals by number and
+-- Document 01, "What is turned away", with what requests 1, 6 and 8 add to it and without 12, which request 7 takes off: the refusals by number and
 -- place, in their order.
 use Prim.Native.Nat.{ℕ, zero, suc, _+_}
 use mathlib.Core.Bool.{Bool, true, false, not, _&&_, _||_}
@@ -6,7 +6,7 @@ use mathlib.Core.List.{[], _∷_}
 use lib.ListN.{length}
 use lib.Dec.{leb, ltb, eqb}
 use Rattle.semantics.specs.Words.{Words, word, sum-below, seen-before, if_then_else_}
-use Rattle.semantics.specs.Table.{records, fields, pointers, variables, nodes, commands, limits, count-place, count, item-place, item, int, is-pointer, known-type, known-target, points-to-type, points-to-record, pointed-record, entry-below, field-total, first-field, Kind, variable, deref, field, constant, sum, read, address, cast, size, malloc, copy, unknown, Sort, place, value, neither, sort-of, Operand, unused, variable-number, field-number, any-word, type-word, target-word, place-child, value-child, operand-a, operand-b, node-kind, node-a, node-b, children, node-type}
+use Rattle.semantics.specs.Table.{Edition, edition-1, edition-2, edition, records, fields, pointers, variables, nodes, commands, limits, count-place, count, item-place, item, int, is-pointer, known-type, known-target, points-to-type, points-to-record, pointed-record, entry-below, field-total, first-field, Kind, variable, deref, field, constant, sum, read, address, cast, size, malloc, copy, unknown, Sort, place, value, neither, sort-of, Operand, unused, variable-number, field-number, any-word, type-word, target-word, place-child, value-child, operand-a, operand-b, node-kind, node-a, node-b, children, node-type}
 use Rattle.semantics.specs.Registers.{register-count, register-place, register-variable, register-start}
 
 pub data Verdict : Type 0 where
@@ -29,7 +29,16 @@ unfoldable pub each : ℕ → (ℕ → Verdict) → Verdict
 each zero f = passes
 each (suc n) f = each n f or-else f n
 
--- "the sections in turn, each its count (1, then 3) and then its extent (1)"; "For a cut table the place is its length."
+-- Request 8: "16 when another edition follows the mark, place 1". Where nothing follows it, the sections are cut short.
+abbrev pub edition-known : Edition → Words → Bool
+edition-known edition-1 t = true
+edition-known edition-2 t = leb (length t) 1 || eqb (word t 1) 2
+
+unfoldable pub edition-fault : Words → Verdict
+edition-fault t = require (edition-known (edition t) t) 16 1
+
+-- "the sections in turn, each its count (1, then 3) and then its extent (1)"; "For a cut table the place is its length." Request 8: "1 at place 1 if the
+-- table ends with the mark; 3 no longer for the mark".
 unfoldable pub section-fault : Words → ℕ → Verdict
 section-fault t s =
     require (ltb (count-place t s) (length t)) 1 (length t)
@@ -141,10 +150,11 @@ uses t n =
 unfoldable pub use-fault : Words → ℕ → Verdict
 use-fault t n = require (eqb (uses t n) 1) 9 (item-place t nodes n 0)
 
--- "The check alone gives 1 to 9 .. or passes."
+-- "The check alone gives 1 to 9 .. or passes." Request 8: 16 is given "before all others".
 unfoldable pub check : Words → Verdict
 check t =
-    each 6 (section-fault t)
+    edition-fault t
+    or-else each 6 (section-fault t)
     or-else words-over t
     or-else each (count t records) (record-fault t)
     or-else field-sum-fault t

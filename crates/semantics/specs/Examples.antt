@@ -9,7 +9,8 @@ use Rattle.semantics.specs.Rules.{Datum, unbounded}
 use Rattle.semantics.specs.Run.{done, abort, out-of-memory, Answer, refusal, ending}
 use Rattle.semantics.specs.ExampleTables.{types, of-type, Term, Var, Deref, Field, Num, Sum, Read, Address, Cast, Malloc, Command, _:=_, routine, Judgement, gives, Example, called, answer-with, untouched, ends-so, bounded, no-registers}
 
--- ---- "What is turned away", one example for each number that the check gives; that for 7 "takes kind 99" (request 6)
+-- ---- "What is turned away", one example for each number that the check gives; that for 7 "takes kind 99" (request 6), and
+-- that for 16 is request 8's
 
 abbrev printed : List Judgement
 printed =
@@ -22,6 +23,7 @@ printed =
     ∷ gives (0 ∷ 0 ∷ 0 ∷ 0 ∷ 1 ∷ 99 ∷ 0 ∷ 0 ∷ 0 ∷ []) (refused 7 5)
     ∷ gives (0 ∷ 0 ∷ 0 ∷ 1 ∷ 1 ∷ 3 ∷ 1 ∷ 0 ∷ 0 ∷ 6 ∷ 0 ∷ 0 ∷ 2 ∷ 1 ∷ 0 ∷ 0 ∷ []) (refused 8 12)
     ∷ gives (0 ∷ 0 ∷ 0 ∷ 0 ∷ 1 ∷ 4 ∷ 7 ∷ 0 ∷ 0 ∷ []) (refused 9 5)
+    ∷ gives (4294967295 ∷ 1 ∷ 0 ∷ 0 ∷ 0 ∷ 0 ∷ 0 ∷ 0 ∷ []) (refused 16 1)
     ∷ []
 
 unfoldable pub verdicts : List Judgement
@@ -45,7 +47,7 @@ refusals =
 -- ---- "Runs to compare"
 
 -- "Memory 4 words, one variable p, pointer to int": p is variable 0, pointer to int type 2, and type 3 is pointer to pointer to int.
-abbrev with-p : List Command → Answer → List Datum → Example
+abbrev pub with-p : List Command → Answer → List Datum → Example
 with-p cs = ends-so (types [] (0 ∷ 2 ∷ []) (2 ∷ []) ++ routine cs) (0 ∷ []) no-registers 4
 
 abbrev p : Term
@@ -61,6 +63,10 @@ at-p-plus k = Deref (p-plus k)
 -- p = (int*)malloc(n)
 abbrev malloc-to-p : ℕ → Command
 malloc-to-p n = p := Cast (Malloc (Num n)) 2
+
+-- m; *(int*)&p = 3; *p = 8
+abbrev pub store-over-p : List Command
+store-over-p = malloc-to-p 2 ∷ (Deref (Cast (Address p) 2) := Num 3) ∷ (Deref (Read p) := Num 8) ∷ []
 
 unfoldable pub runs : List Example
 runs =
@@ -86,8 +92,7 @@ runs =
     ∷ with-p (malloc-to-p 2 ∷ (p := Address (at-p-plus 1)) ∷ (at-p-plus 4294967295 := Num 7) ∷ [])
     (ending done 4) (bounded 3 2 4 ∷ unbounded 7 ∷ unbounded 0 ∷ [])
     -- m; *(int*)&p = 3; *p = 8
-    ∷ with-p (malloc-to-p 2 ∷ (Deref (Cast (Address p) 2) := Num 3) ∷ (Deref (Read p) := Num 8) ∷ [])
-    (ending done 4) (bounded 3 2 4 ∷ unbounded 0 ∷ unbounded 8 ∷ [])
+    ∷ with-p store-over-p (ending done 4) (bounded 3 2 4 ∷ unbounded 0 ∷ unbounded 8 ∷ [])
     -- m; *(p+2) = (int)malloc(9)
     ∷ with-p (malloc-to-p 2 ∷ (at-p-plus 2 := Cast (Malloc (Num 9)) 0) ∷ [])
     (ending (abort 1) 4) (bounded 2 2 4 ∷ unbounded 0 ∷ unbounded 0 ∷ [])

@@ -19,3 +19,5 @@ pub mod TreeExamples
 pub mod ExplainExamples
 pub mod LeftExamples
 pub mod CopyExamples
+pub mod MarkExamples
+pub mod EditionExamples

@@ -144,9 +144,9 @@ pub record Operands (a b : Value) (s : State) (p q : Datum) (s′ : State) : Typ
 -- those of its checks and its words; and no other tree has an event of its own.
 pub data Gives (s : State) (d : Datum) (s′ : State) : Value → Type 0 where
   number-value : {n x : ℕ} → s′ ≡ s → Gives s d s′ (Number n x)
-  sum-value : {n step : ℕ} {a b : Value} (p x : Datum) (s₁ : State) → value-at a s ≡ ok p s₁ → value-at b s₁ ≡ ok x s′ → Gives s d s′ (Sum n step a b)
-  read-value : {n : ℕ} {pointer : Bool} {p : Place} (l : Location) (s₁ : State) → place-at p s ≡ ok l s₁
-      → Word-read s₁ (l .at) d pointer → Noted (loaded (l .at) (l .access)) s₁ s′ → Gives s d s′ (Read n pointer p)
+  sum-value : {n : ℕ} {either : Bool} {step : ℕ} {a b : Value} (p x : Datum) (s₁ : State) → value-at a s ≡ ok p s₁ → value-at b s₁ ≡ ok x s′ → Gives s d s′ (Sum n either step a b)
+  read-value : {n : ℕ} {bounds : Bool} {p : Place} (l : Location) (s₁ : State) → place-at p s ≡ ok l s₁
+      → Word-read s₁ (l .at) d bounds → Noted (loaded (l .at) (l .access)) s₁ s′ → Gives s d s′ (Read n bounds p)
   address-value : {n : ℕ} {p : Place} (l : Location) → place-at p s ≡ ok l s′ → Gives s d s′ (Address n p)
   cast-value : {n : ℕ} {keeps : Bool} {v : Value} (x : Datum) → value-at v s ≡ ok x s′ → Gives s d s′ (Cast n keeps v)
   malloc-value : {n : ℕ} {v : Value} (x : Datum) (s₁ : State) → value-at v s ≡ ok x s₁ → Allocates (x .value) s₁ d s′ → Gives s d s′ (Malloc n v)
@@ -194,9 +194,9 @@ pub data Place-fails (s : State) (x : Bounds-check) (s′ : State) : Place → T
   field-child : {n offset k : ℕ} {v : Value} → value-at v s ≡ fails x s′ → Place-fails s x s′ (Field n offset k v)
 
 pub data Value-fails (s : State) (x : Bounds-check) (s′ : State) : Value → Type 0 where
-  sum-left : {n step : ℕ} {a b : Value} → value-at a s ≡ fails x s′ → Value-fails s x s′ (Sum n step a b)
-  sum-right : {n step : ℕ} {a b : Value} (p : Datum) (s₁ : State) → value-at a s ≡ ok p s₁ → value-at b s₁ ≡ fails x s′ → Value-fails s x s′ (Sum n step a b)
-  read-place : {n : ℕ} {pointer : Bool} {p : Place} → place-at p s ≡ fails x s′ → Value-fails s x s′ (Read n pointer p)
+  sum-left : {n : ℕ} {either : Bool} {step : ℕ} {a b : Value} → value-at a s ≡ fails x s′ → Value-fails s x s′ (Sum n either step a b)
+  sum-right : {n : ℕ} {either : Bool} {step : ℕ} {a b : Value} (p : Datum) (s₁ : State) → value-at a s ≡ ok p s₁ → value-at b s₁ ≡ fails x s′ → Value-fails s x s′ (Sum n either step a b)
+  read-place : {n : ℕ} {bounds : Bool} {p : Place} → place-at p s ≡ fails x s′ → Value-fails s x s′ (Read n bounds p)
   address-place : {n : ℕ} {p : Place} → place-at p s ≡ fails x s′ → Value-fails s x s′ (Address n p)
   cast-child : {n : ℕ} {keeps : Bool} {v : Value} → value-at v s ≡ fails x s′ → Value-fails s x s′ (Cast n keeps v)
   malloc-child : {n : ℕ} {v : Value} → value-at v s ≡ fails x s′ → Value-fails s x s′ (Malloc n v)

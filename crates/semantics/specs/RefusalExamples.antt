@@ -45,7 +45,7 @@ sections =
     ∷ gives (0 ∷ 0 ∷ 0 ∷ 0 ∷ 513 ∷ []) (refused 3 4)
     ∷ gives (0 ∷ 0 ∷ 0 ∷ 0 ∷ 0 ∷ 256 ∷ []) (refused 1 6)
     ∷ gives (0 ∷ 0 ∷ 0 ∷ 0 ∷ 0 ∷ 257 ∷ []) (refused 3 5)
-    ∷ gives (4294967295 ∷ []) (refused 3 0)
+    ∷ gives (4294967294 ∷ []) (refused 3 0)
     -- where each count stands: an earlier section's entries are passed over by their own number of words
     ∷ gives (2 ∷ 1 ∷ 1 ∷ 129 ∷ []) (refused 3 3)
     ∷ gives (0 ∷ 2 ∷ 0 ∷ 1 ∷ 0 ∷ 1 ∷ 65 ∷ []) (refused 3 6)

@@ -1,4 +1,4 @@
--- Document 01, "Steps", and request 6's copy, over trees. All sums are exact but for that of a Sum.
+-- Document 01, "Steps", request 6's copy and request 8's edition 2, over trees. All sums are exact but for that of a Sum.
 use Prim.Native.Nat.{ℕ, zero, suc, _+_, _*_, _-_, _%_}
 use mathlib.Core.Bool.{Bool, true, false, _&&_}
 use mathlib.Core.List.{List, _∷_}
@@ -118,25 +118,32 @@ field-step n offset k p s =
 unfoldable pub touchable : State → ℕ → Bool
 touchable s w = ltb 0 w && ltb w (s .unused)
 
--- "Read: a pointer type gives value, base and end of the word; int gives the value without bounds"
+-- "Read: a pointer type gives value, base and end of the word; int gives the value without bounds"; edition 2 gives all three of every type
 abbrev pub contents : Bool → State → ℕ → Datum
 contents true s w = record { value = word (s .values) w; base = word (s .bases) w; end = word (s .ends) w }
 contents false s w = unbounded (word (s .values) w)
 
 unfoldable pub read-step : Bool → Location → State → Outcome Datum
-read-step pointer l s =
-    if touchable s (l .at) then ok (contents pointer s (l .at)) (noted (loaded (l .at) (l .access)) s) else no-rule s
+read-step bounds l s =
+    if touchable s (l .at) then ok (contents bounds s (l .at)) (noted (loaded (l .at) (l .access)) s) else no-rule s
 
 -- "Address: the place's word with the place's bounds"
 abbrev pub address-step : Location → State → Outcome Datum
 address-step l s = ok (record { value = l .at; base = l .base; end = l .end }) s
 
+-- The operand that a sum has its bounds from: the left one; in edition 2 "the left bounds if the left end isn't 0, else the right ones".
+abbrev pub bounds-from : Bool → (left right : Datum) → Datum
+bounds-from false p x = p
+bounds-from true p x = if eqb (p .end) 0 then x else p
+
 -- "Sum: modulo 4,294,967,296. A sum of a pointer and a number moves the pointer .. and keeps its bounds." Request 2: by "that number
 -- times the record's size, modulo 4,294,967,296"
-abbrev pub sum-step : ℕ → Datum → Datum → State → Outcome Datum
-sum-step step p x s = ok (record { value = (p .value + step * x .value) % 4294967296; base = p .base; end = p .end }) s
+abbrev pub sum-step : Bool → ℕ → Datum → Datum → State → Outcome Datum
+sum-step either step p x s =
+    let d = bounds-from either p x in
+    ok (record { value = (p .value + step * x .value) % 4294967296; base = d .base; end = d .end }) s
 
--- "Cast: pointer to pointer keeps everything; from int, or to int, the value is kept without bounds."
+-- "Cast: pointer to pointer keeps everything; from int, or to int, the value is kept without bounds." Edition 2: "a cast changes nothing".
 abbrev pub cast-step : Bool → Datum → State → Outcome Datum
 cast-step true p s = ok p s
 cast-step false p s = ok (unbounded (p .value)) s
@@ -197,24 +204,25 @@ unfoldable mutual
 
   pub value-at : Value → State → Outcome Datum
   value-at (Number n x) s = ok (unbounded x) s
-  value-at (Sum n step a b) s = bind (value-at a s) (λ p s′. bind (value-at b s′) (sum-step step p))
-  value-at (Read n pointer p) s = bind (place-at p s) (read-step pointer)
+  value-at (Sum n either step a b) s = bind (value-at a s) (λ p s′. bind (value-at b s′) (sum-step either step p))
+  value-at (Read n bounds p) s = bind (place-at p s) (read-step bounds)
   value-at (Address n p) s = bind (place-at p s) address-step
   value-at (Cast n keeps v) s = bind (value-at v s) (cast-step keeps)
   value-at (Malloc n v) s = bind (value-at v s) malloc-step
   value-at (Copy n k a b) s = bind (value-at a s) (λ p s′. bind (value-at b s′) (copy-step n k p))
   value-at NoValue s = no-rule s
 
--- "Assign: a pointer type stores value, base and end; int stores the value only, and the word's base and end stay."
+-- "Assign: a pointer type stores value, base and end; int stores the value only, and the word's base and end stay." Edition 2 stores all three of every
+-- type.
 abbrev pub with-datum : Bool → ℕ → Datum → State → State
 with-datum true w x s =
     record { values = set (s .values) w (x .value); bases = set (s .bases) w (x .base); ends = set (s .ends) w (x .end); unused = s .unused; log = s .log }
 with-datum false w x s = with-values (set (s .values) w (x .value)) s
 
 unfoldable pub assign-step : Bool → Location → Datum → State → Outcome (Unit {0})
-assign-step pointer l x s =
-    if touchable s (l .at) then ok tt (noted (stored (l .at) (l .access)) (with-datum pointer (l .at) x s)) else no-rule s
+assign-step bounds l x s =
+    if touchable s (l .at) then ok tt (noted (stored (l .at) (l .access)) (with-datum bounds (l .at) x s)) else no-rule s
 
 -- "a command's place before its value"
 unfoldable pub assign : Bool → Place → Value → State → Outcome (Unit {0})
-assign pointer p v s = bind (place-at p s) (λ l s′. bind (value-at v s′) (assign-step pointer l))
+assign bounds p v s = bind (place-at p s) (λ l s′. bind (value-at v s′) (assign-step bounds l))

@@ -5,10 +5,10 @@ use mathlib.Core.List.{[], _∷_}
 use lib.ListN.{length, replicate, set}
 use lib.Seq.{sets}
 use Rattle.semantics.specs.Words.{Words, zeroed}
-use Rattle.semantics.specs.Table.{variables, commands, count, is-pointer, node-type}
+use Rattle.semantics.specs.Table.{edition, variables, commands, count, node-type}
 use Rattle.semantics.specs.Registers.{register-count, register-variable, register-length, register-words}
 use Rattle.semantics.specs.Check.{Verdict, passes, refused, command-place, command-value, call-fault}
-use Rattle.semantics.specs.Syntax.{place-of, value-of}
+use Rattle.semantics.specs.Syntax.{moves-bounds, place-of, value-of}
 use Rattle.semantics.specs.Rules.{unbounded, allocated, State, Outcome, ok, fails, no-room, no-rule, with-datum, assign}
 
 -- "U, the first unused word, starts at 1 + the number of variables." "A begun run first clears all three lists, then
@@ -39,7 +39,8 @@ unfoldable pub begin : Words → Words → Words → ℕ → State
 begin t inputs registers len = registers-below registers (register-count registers) (cleared t inputs len)
 
 unfoldable pub command : Words → ℕ → State → Outcome (Unit {0})
-command t c = assign (is-pointer (node-type t (command-place t c))) (place-of t (command-place t c)) (value-of t (command-value t c))
+command t c =
+    assign (moves-bounds (edition t) (node-type t (command-place t c))) (place-of t (command-place t c)) (value-of t (command-value t c))
 
 -- done, abort and no room; stuck is "touching a word with no rule".
 pub data Ending : Type 0 where

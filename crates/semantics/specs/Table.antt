@@ -1,4 +1,4 @@
--- Document 01, "The table": sections, types, sizes, and what a node's kind says of its two other words.
+-- Document 01, "The table": editions, sections, types, sizes, and what a node's kind says of its two other words.
 -- All of this is total: where a table is cut short or makes no sense, a word past its end counts as 0, and the check refuses it.
 use Prim.Native.Nat.{ℕ, zero, suc, _+_, _*_, _-_}
 use mathlib.Core.Bool.{Bool, _&&_, _||_}
@@ -6,6 +6,21 @@ use mathlib.Core.List.{List, [], _∷_, _++_}
 use lib.Dec.{leb, ltb, eqb}
 use lib.ListN.{getD}
 use Rattle.semantics.specs.Words.{Words, word, if_then_else_, sum-below, least-below, grow}
+
+-- Request 8: "An edition 2 table starts with the word 4,294,967,295 and the word 2; the sections follow." The word 2 is asked for by the check.
+pub data Edition : Type 0 where
+  edition-1 edition-2 : Edition
+
+abbrev pub edition-mark : ℕ
+edition-mark = 4294967295
+
+unfoldable pub edition : Words → Edition
+edition t = if eqb (word t 0) edition-mark then edition-2 else edition-1
+
+-- The words before the first section: none, or the mark and the 2. "Places count the mark and the 2".
+abbrev pub mark-words : Edition → ℕ
+mark-words edition-1 = 0
+mark-words edition-2 = 2
 
 -- "six sections in fixed order, each after its count. Numbering starts at 0 everywhere."
 abbrev pub records : ℕ
@@ -35,7 +50,7 @@ limits = 32 ∷ 128 ∷ 64 ∷ 64 ∷ 512 ∷ 256 ∷ []
 
 -- Where section s's count stands; for s = 6 where the table ends.
 unfoldable pub count-place : Words → ℕ → ℕ
-count-place t zero = 0
+count-place t zero = mark-words (edition t)
 count-place t (suc s) = count-place t s + 1 + word entry-words s * word t (count-place t s)
 
 unfoldable pub count : Words → ℕ → ℕ

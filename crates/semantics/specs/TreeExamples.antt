@@ -1,7 +1,7 @@
 -- What the answers of calls don't show: trees with all that elaboration settles, the value of each kind of tree, a copy with its events, registers
 -- over dirty words, and steps without a rule.
 use Prim.Native.Nat.{ℕ, _+_}
-use mathlib.Core.Bool.{true, false}
+use mathlib.Core.Bool.{Bool, true, false}
 use mathlib.Core.List.{List, [], _∷_, _++_, map}
 use lib.ListN.{replicate}
 use Rattle.semantics.specs.Words.{Words}
@@ -30,20 +30,20 @@ every-kind =
     ((p := Cast (Malloc (Size 65537)) 2) ∷ (q := Address (Field (Sum (Read p) (Num 1)) 1)) ∷ (Deref (Read q) := Read (Var 2)) ∷ (Var 2 := Cast (Read q) 0)
     ∷ (q := Cast (Num 7) 3) ∷ (Var 2 := Copy (Sum (Read p) (Num 1)) (Read p)) ∷ [])
 
--- Some of its nodes, and their trees.
+-- Some of its nodes, and their trees in edition 1 or, if so told, in edition 2.
 abbrev pub roots : List ℕ
 roots = 0 ∷ 3 ∷ 10 ∷ 13 ∷ 15 ∷ 19 ∷ 22 ∷ 30 ∷ []
 
-unfoldable pub trees : List Tree
-trees =
+unfoldable pub trees-of : (edition-2 : Bool) → List Tree
+trees-of edition-2 =
     place (Variable 0 0)
     ∷ value (tree.Cast 3 true (tree.Malloc 2 (Number 1 5)))
-    ∷ value (tree.Address 10 (tree.Field 9 2 3 (tree.Sum 8 5 (tree.Read 6 true (Variable 5 0)) (Number 7 1))))
+    ∷ value (tree.Address 10 (tree.Field 9 2 3 (tree.Sum 8 edition-2 5 (tree.Read 6 true (Variable 5 0)) (Number 7 1))))
     ∷ place (tree.Deref 13 (tree.Read 12 true (Variable 11 1)))
-    ∷ value (tree.Read 15 false (Variable 14 2))
-    ∷ value (tree.Cast 19 false (tree.Read 18 true (Variable 17 1)))
-    ∷ value (tree.Cast 22 false (Number 21 7))
-    ∷ value (tree.Copy 30 5 (tree.Sum 27 5 (tree.Read 25 true (Variable 24 0)) (Number 26 1)) (tree.Read 29 true (Variable 28 0)))
+    ∷ value (tree.Read 15 edition-2 (Variable 14 2))
+    ∷ value (tree.Cast 19 edition-2 (tree.Read 18 true (Variable 17 1)))
+    ∷ value (tree.Cast 22 edition-2 (Number 21 7))
+    ∷ value (tree.Copy 30 5 (tree.Sum 27 edition-2 5 (tree.Read 25 true (Variable 24 0)) (Number 26 1)) (tree.Read 29 true (Variable 28 0)))
     ∷ []
 
 -- ---- The value of each kind of tree, in a state of its own: word 1 is 5 with bounds [2, 4), word 2 is 9, U is 4, and memory has 6 words
@@ -77,8 +77,10 @@ values =
     ∷ works-out pointer (bounded 5 2 4)
     ∷ works-out (tree.Read 1 false (Variable 0 0)) (unbounded 5)
     ∷ works-out (tree.Address 1 (Variable 0 1)) (bounded 2 2 3)
-    ∷ works-out (tree.Sum 3 3 pointer (Number 2 4)) (bounded 17 2 4)
-    ∷ works-out (tree.Sum 4 2 (Number 0 6) pointer) (unbounded 16)
+    ∷ works-out (tree.Sum 3 false 3 pointer (Number 2 4)) (bounded 17 2 4)
+    ∷ works-out (tree.Sum 4 false 2 (Number 0 6) pointer) (unbounded 16)
+    ∷ works-out (tree.Sum 3 true 3 pointer (Number 2 4)) (bounded 17 2 4)
+    ∷ works-out (tree.Sum 4 true 2 (Number 0 6) pointer) (bounded 16 2 4)
     ∷ works-out (tree.Cast 2 true pointer) (bounded 5 2 4)
     ∷ works-out (tree.Cast 2 false pointer) (unbounded 5)
     ∷ works-out (tree.Malloc 1 (Number 0 2)) (bounded 4 4 6)
@@ -98,7 +100,7 @@ abbrev block : Value
 block = tree.Malloc 1 (Number 0 2)
 
 abbrev two-words : Value
-two-words = tree.Sum 5 1 (tree.Read 3 true (Variable 2 0)) (Number 4 4294967293)
+two-words = tree.Sum 5 false 1 (tree.Read 3 true (Variable 2 0)) (Number 4 4294967293)
 
 abbrev pub copies : List Value
 copies =

@@ -11,7 +11,7 @@ use lib.ListN.{length}
 use Rattle.words.specs.Columns.{column}
 use Rattle.semantics.specs.Words.{Words, word}
 use Rattle.semantics.specs.Table.{is-pointer}
-use Rattle.semantics.specs.Rules.{Datum, unbounded, Location, variable-location, Event, loaded, stored, allocated, tested, State, Outcome, ok, bind, words-left, enough-left, check-of, checked, pointed, deref-step, field-step, touchable, contents, read-step, sum-step, cast-step, malloc-step, with-copy, copy-step}
+use Rattle.semantics.specs.Rules.{Datum, unbounded, Location, variable-location, Event, loaded, stored, allocated, tested, State, Outcome, ok, bind, words-left, enough-left, check-of, checked, pointed, deref-step, field-step, touchable, contents, read-step, bounds-from, sum-step, cast-step, malloc-step, with-copy, copy-step}
 use Rattle.semantics.specs.Explain.{block-start}
 use Rattle.semantics.proofs.Tests.{words-are-left, left-inside, check-enough}
 use Rattle.semantics.proofs.Invariant.{Inv, permitted-used, Location-ok, Good, good-ok}
@@ -153,12 +153,24 @@ module _ {v w x y : ℕ} {m : List Words} {s s′ : Words} (n o k : ℕ) (under 
 pub product-fits : {a b : ℕ} → a < 2 ^ 32 → b < 2 ^ 32 → a * b < 2 ^ 64
 product-fits {a} ha hb = lt-of-le-of-lt (mul-le-mul-left a (le-of-lt hb)) (mul-lt-mul-of-pos-right ha (omega arith))
 
-pub sum-done : {v w b e r : ℕ} {m : List Words} {s s′ : Words} (step : ℕ) (p : Datum) → p .value ≡ v → p .base ≡ b → p .end ≡ e → w < failed → Bounded b e s s′
+-- The bounds of a sum, in the slots s′: p is the left operand, and the right one has its bounds in s.
+abbrev pub Chosen : Datum → Words → Words → Type 0
+Chosen p s s′ = (x : Datum) → x .base ≡ word s base-slot → x .end ≡ word s end-slot → Bounded (bounds-from true p x .base) (bounds-from true p x .end) s s′
+
+pub chosen-left : {b e : ℕ} {s s′ : Words} (p : Datum) → p .base ≡ b → p .end ≡ e → (e ≡ 0 → ⊥) → Bounded b e s s′ → Chosen p s s′
+chosen-left {e = e} p hb he some set x xb xe = rw (he, ne-eqb e 0 some, hb) set
+
+pub chosen-right : {b e : ℕ} {s : Words} (p : Datum) → p .base ≡ b → p .end ≡ e → e ≡ 0 → length s ≡ slots → Chosen p s s
+chosen-right {e = e} {s = s} p hb he none room x xb xe =
+    rw (he, eq-eqb e 0 none) (record { room = room; base = sym xb; end = sym xe; kept = all-kept s })
+
+pub sum-done : {v w r : ℕ} {m : List Words} {s s′ : Words} (step : ℕ) (p : Datum) → p .value ≡ v → w < failed → Chosen p s s′
     → r ≡ (v + step * w) % 4294967296 → r < failed → Sum-finishes step p m w s r s′
-sum-done step p hv hb he under set h small =
-    goes-on (sum-step step p) (set .room) under
+sum-done {s = s} step p hv under chosen h small =
+    goes-on (sum-step true step p) (chosen (record { value = 0; base = word s base-slot; end = word s end-slot }) refl refl .room) under
     (λ vars len w x log i watch inv fine.
-    given-ok _ log (record { value = rw (hv, i .value) (sym h); base = hb ∙ sym (set .base); end = he ∙ sym (set .end) }) small (set .kept .unused) (watches-on (set .kept) refl watch))
+    let set = chosen x (i .base) (i .end) in
+    given-ok _ log (record { value = rw (hv, i .value) (sym h); base = sym (set .base); end = sym (set .end) }) small (set .kept .unused) (watches-on (set .kept) refl watch))
 
 -- A place that may be touched is in use.
 pub touched : {vars len at : ℕ} {l : Location} {st : State} → Inv vars len st → Location-ok vars l st → l .at ≡ at

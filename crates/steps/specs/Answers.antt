@@ -174,12 +174,12 @@ Deref-finishes n m v s r = Finishes Datum-is Datum-ok Location-is (deref-step n)
 abbrev pub Field-finishes : ℕ → ℕ → ℕ → List Words → ℕ → Words → ℕ → Words → Type 0
 Field-finishes n offset words m v s r = Finishes Datum-is Datum-ok Location-is (field-step n offset words) m v s r m
 
--- The left operand is p.
+-- The left operand is p. The rule is edition 2's.
 abbrev pub Sum-finishes : ℕ → Datum → List Words → ℕ → Words → ℕ → Words → Type 0
-Sum-finishes step p m v s r = Finishes Number-is Datum-ok Datum-is (sum-step step p) m v s r m
+Sum-finishes step p m v s r = Finishes Datum-is Datum-ok Datum-is (sum-step true step p) m v s r m
 
 abbrev pub Load-finishes : ℕ → List Words → ℕ → Words → ℕ → Words → Type 0
-Load-finishes pointer m v s r = Finishes Place-is Location-ok Datum-is (read-step (is-pointer pointer)) m v s r m
+Load-finishes bounds m v s r = Finishes Place-is Location-ok Datum-is (read-step (is-pointer bounds)) m v s r m
 
 abbrev pub Cast-finishes : List Words → ℕ → Words → ℕ → Words → Type 0
 Cast-finishes m v s r = Finishes Number-is Datum-ok Datum-is (cast-step false) m v s r m

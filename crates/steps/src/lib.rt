@@ -1,6 +1,7 @@
 // The steps of evaluation: what is answered for one node from what its child answered.
 // A result is one number, below 2^32 a value or a place, else how evaluation ended. `s` are slots beside it: base and end of what was
 // worked out, U, where a check was not passed that check, and which block has a word that is watched for.
+ghost use mathlib.Core.Bool.{true};
 ghost use mathlib.Core.Path.{_≡_};
 ghost use mathlib.Core.List.{List, [], map};
 ghost use Prim.Native.Nat.{_+_, _*_, _%_, _≤_, _<_, _^_};
@@ -9,7 +10,7 @@ ghost use lib.ListN.{length};
 ghost use Rattle.words.specs.Columns.{column};
 ghost use Rattle.semantics.specs.Words.{Words, word};
 ghost use Rattle.semantics.specs.Table.{is-pointer};
-ghost use Rattle.semantics.specs.Rules.{Datum, unbounded, variable-location, words-left, contents};
+ghost use Rattle.semantics.specs.Rules.{Datum, unbounded, variable-location, words-left, contents, bounds-from};
 ghost use Rattle.steps.specs.Answers.{slots, failed, state-of, Datum-is, Location-is, Bounded, Given, Told, Tells, Reserved, Moved, Inside, Deref-finishes, Field-finishes, Sum-finishes, Load-finishes, Cast-finishes, Malloc-finishes, Copy-finishes};
 use moves::move_words;
 use words::index;
@@ -158,12 +159,12 @@ pub fn failure(s: &Slots) -> FailedCheck
     }
 }
 
-// What stands at word w, with its bounds where its type is a pointer's.
-pub fn fetch(m: &mut Memory, w: usize, pointer: u32, s: &mut Slots) -> u64
+// What stands at word w, with its bounds unless `bounds` is 0.
+pub fn fetch(m: &mut Memory, w: usize, bounds: u32, s: &mut Slots) -> u64
     requires { ⌜ (w < 2 ^ 32) × (w < length (column (map (λ x. now x) (now m)) 0)) × (w < length (column (map (λ x. now x) (now m)) 1)) × (w < length (column (map (λ x. now x) (now m)) 2)) × (length (now s) ≡ slots) ⌝ }
-    ensures { λ r. ⌜ (Given Datum-is (contents (is-pointer pointer) (state-of (map (λ x. now x) (now (m .entry))) 0 []) w) (now (s .entry)) r (now (s .exit))) × (now (m .exit) ≡ now (m .entry)) ⌝ }
+    ensures { λ r. ⌜ (Given Datum-is (contents (is-pointer bounds) (state-of (map (λ x. now x) (now (m .entry))) 0 []) w) (now (s .entry)) r (now (s .exit))) × (now (m .exit) ≡ now (m .entry)) ⌝ }
 {
-    if pointer == 0 {
+    if bounds == 0 {
         return number(cell(m, VALUES, w), s);
     }
     bound(cell(m, BASES, w), cell(m, ENDS, w), s);
@@ -212,7 +213,18 @@ pub fn field(n: usize, v: u64, offset: u32, count: u32, s: &mut Slots) -> u64
     fail(n, w, count, s)
 }
 
-// A sum from its right operand, w: the left one is v, with this base and this end, which it keeps.
+// The bounds of a sum: those of the left operand, if its end isn't 0; else the right one's, which the slots have. That is edition 2's rule. In
+// edition 1 it comes to the left operand's in any case: the right one is an int, which has none.
+fn choose_bounds(base: u32, end: u32, s: &mut Slots)
+    requires { ⌜ length (now s) ≡ slots ⌝ }
+    ensures { λ r. ⌜ ((p x : Datum) → p .base ≡ base → p .end ≡ end → x .base ≡ word (now (s .entry)) 0 → x .end ≡ word (now (s .entry)) 1 → Bounded (bounds-from true p x .base) (bounds-from true p x .end) (now (s .entry)) (now (s .exit))) ⌝ }
+{
+    if end != 0 {
+        bound(base, end, s);
+    }
+}
+
+// A sum from its right operand, w: the left one is v, with this base and this end.
 pub fn sum(v: u64, base: u32, end: u32, step: u32, w: u64, s: &mut Slots) -> u64
     requires { ⌜ (v < failed) × (length (now s) ≡ slots) ⌝ }
     ensures { λ r. ⌜ ((m : List Words) (p : Datum) → p .value ≡ v → p .base ≡ base → p .end ≡ end → Sum-finishes step p m w (now (s .entry)) r (now (s .exit))) ⌝ }
@@ -220,20 +232,20 @@ pub fn sum(v: u64, base: u32, end: u32, step: u32, w: u64, s: &mut Slots) -> u64
     if FAILED <= w {
         return w;
     }
-    bound(base, end, s);
+    choose_bounds(base, end, s);
     add(v, step, w)
 }
 
-// The word at a place, with its bounds where its type is a pointer's.
-pub fn load(m: &mut Memory, at: u64, pointer: u32, s: &mut Slots) -> u64
+// The word at a place, with its bounds unless `bounds` is 0.
+pub fn load(m: &mut Memory, at: u64, bounds: u32, s: &mut Slots) -> u64
     requires { ⌜ length (now s) ≡ slots ⌝ }
     requires { ⌜ (at < failed → (at < length (column (map (λ x. now x) (now m)) 0)) × (at < length (column (map (λ x. now x) (now m)) 1)) × (at < length (column (map (λ x. now x) (now m)) 2))) ⌝ }
-    ensures { λ r. ⌜ (Load-finishes pointer (map (λ x. now x) (now (m .entry))) at (now (s .entry)) r (now (s .exit))) × (now (m .exit) ≡ now (m .entry)) ⌝ }
+    ensures { λ r. ⌜ (Load-finishes bounds (map (λ x. now x) (now (m .entry))) at (now (s .entry)) r (now (s .exit))) × (now (m .exit) ≡ now (m .entry)) ⌝ }
 {
     if FAILED <= at {
         return at;
     }
-    fetch(m, at as usize, pointer, s)
+    fetch(m, at as usize, bounds, s)
 }
 
 // A cast that drops bounds.

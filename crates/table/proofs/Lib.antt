@@ -3,3 +3,4 @@ pub mod Uses
 pub mod Nodes
 pub mod Commands
 pub mod Whole
+pub mod Editions

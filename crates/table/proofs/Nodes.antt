@@ -8,7 +8,7 @@ use native.Mathlib.Decide.{ℕ-discrete}
 use lib.ListN.{length, set, length-set}
 use lib.Seq.{getD-set-same, getD-set-other}
 use Rattle.semantics.specs.Words.{Words, word, sum-below}
-use Rattle.semantics.specs.Table.{nodes, count, Kind, variable, deref, field, constant, sum, read, address, cast, size, malloc, copy, unknown, operand-a, operand-b, child, node-kind, node-a, node-b, children}
+use Rattle.semantics.specs.Table.{edition-1, nodes, count, Kind, variable, deref, field, constant, sum, read, address, cast, size, malloc, copy, unknown, operand-a, operand-b, child, node-kind, node-a, node-b, children}
 use Rattle.semantics.specs.Check.{passes, refused, each, node-fault, occurrences}
 use Rattle.semantics.proofs.Passed.{Types-passed}
 use Rattle.layout.specs.Layout.{Stands}
@@ -55,35 +55,35 @@ module _ {t notes used : Words} {l : Section} {n : ℕ} (h : Stands t 4 l) (less
   room = record { notes-length = before .notes-length; uses-length = before .uses-length; few = λ i. omega (arith, few-uses before i, h .limited) }
 
   module _ {notes′ used′ : Words} {r : Verdict} (now : Noted t n r notes notes′ used used′) (pass : node-fault t n ≡ passes) where
-    entered : notes′ ≡ set notes n (note t n)
+    entered : notes′ ≡ set notes n (note edition-1 t n)
     entered = rw pass at (now .noted)
 
     counted : Counted used used′ (children t n)
     counted = rw pass at (now .counted)
 
-    noted-more : (i : ℕ) → i < n + 1 → Dec (i ≡ n) → word notes′ i ≡ note t i
-    noted-more i k (yes s) = rw (s, entered) (getD-set-same notes n (note t n) 0 (omega (arith, before .notes-length, h .limited)))
-    noted-more i k (no s) = let less : i < n = omega arith in rw entered (getD-set-other notes n i (note t n) 0 s ∙ before .noted-to .noted i less)
+    noted-more : (i : ℕ) → i < n + 1 → Dec (i ≡ n) → word notes′ i ≡ note edition-1 t i
+    noted-more i k (yes s) = rw (s, entered) (getD-set-same notes n (note edition-1 t n) 0 (omega (arith, before .notes-length, h .limited)))
+    noted-more i k (no s) = let less : i < n = omega arith in rw entered (getD-set-other notes n i (note edition-1 t n) 0 s ∙ before .noted-to .noted i less)
 
     pub nodes-more : Nodes-noted t notes′ used′ (n + 1)
     nodes-more =
         record {
           noted-to = record { types-pass = before .noted-to .types-pass; nodes-pass = each-more _ _ (before .noted-to .nodes-pass) pass; noted = λ i k. noted-more i k (ℕ-discrete i n) };
-          notes-length = ap length entered ∙ length-set notes n (note t n) ∙ before .notes-length;
+          notes-length = ap length entered ∙ length-set notes n (note edition-1 t n) ∙ before .notes-length;
           uses-length = counted .all ∙ before .uses-length;
           counted = λ i. omega (arith, counted .more i, before .counted i, sum-more (λ (m : ℕ). occurrences i (children t m)) n);
         }
 
 -- ---- what is left in the list of notes, which was l
 
-module _ (t l : Words) (n : ℕ) {notes : Words} (before : each n (node-fault t) ≡ passes) (e : notes ≡ filled l 0 n (note t)) where
+module _ (t l : Words) (n : ℕ) {notes : Words} (before : each n (node-fault t) ≡ passes) (e : notes ≡ filled l 0 n (note edition-1 t)) where
   pub notes-all : n ≡ count t nodes → notes ≡ notes-noted t l
   unfolding notes-noted
   notes-all q = rw (← q, passed-all (node-fault t) n before) e
 
   module _ {notes′ used used′ : Words} {r : Verdict} (now : Noted t n r notes notes′ used used′) where
-    pub notes-more : node-fault t n ≡ passes → notes′ ≡ filled l 0 (n + 1) (note t)
-    notes-more pass = rw pass at (now .noted) ∙ filled-more l 0 (note t) n n (note t n) e (omega arith) refl
+    pub notes-more : node-fault t n ≡ passes → notes′ ≡ filled l 0 (n + 1) (note edition-1 t)
+    notes-more pass = rw pass at (now .noted) ∙ filled-more l 0 (note edition-1 t) n n (note edition-1 t n) e (omega arith) refl
 
     pub notes-to : {a p : ℕ} → n < count t nodes → node-fault t n ≡ refused a p → notes′ ≡ notes-noted t l
     unfolding notes-noted

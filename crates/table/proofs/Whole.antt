@@ -4,10 +4,10 @@ use mathlib.Core.Path.{_≡_, _∙_}
 use native.Mathlib.Omega.{arith}
 use lib.ListN.{length}
 use Rattle.semantics.specs.Words.{Words, word}
-use Rattle.semantics.specs.Table.{records, fields, pointers, variables, nodes, commands, count, record-target, field-total, first-field, field-offset, size-of}
-use Rattle.semantics.specs.Check.{Verdict, passes, refused, _or-else_, each, section-fault, words-over, record-fault, field-sum-fault, field-fault, pointer-fault, variable-fault, node-fault, command-fault, use-fault, uses, check}
+use Rattle.semantics.specs.Table.{edition-1, records, fields, pointers, variables, nodes, commands, count, record-target, field-total, first-field, field-offset, size-of}
+use Rattle.semantics.specs.Check.{Verdict, passes, refused, _or-else_, each, edition-fault, section-fault, words-over, record-fault, field-sum-fault, field-fault, pointer-fault, variable-fault, node-fault, command-fault, use-fault, uses, check}
 use Rattle.semantics.proofs.Passed.{or-else-passes, each-passes, Types-passed, section-ok, fields-in}
-use Rattle.layout.specs.Layout.{layout-by, parsed}
+use Rattle.layout.specs.Layout.{sections-fault, layout-by, parsed}
 use Rattle.layout.specs.Lists.{by-verdict}
 use Rattle.layout.specs.Types.{types-fault, first-left}
 use Rattle.layout.specs.declared.Parsed.{Parsed}
@@ -15,7 +15,7 @@ use Rattle.layout.specs.declared.Parsed.the-variants.{Refused}
 use Rattle.layout.proofs.Laws.{or-else-pass, or-else-refuse, or-else-assoc}
 use Rattle.sizes.specs.Sizes.{sizes-noted, offsets-noted}
 use Rattle.sizes.proofs.Sums.{size-at, offset-at}
-use Rattle.table.specs.Promises.{notes-noted, Nodes-noted, Commands-counted, All-counted, Left, sections-fault, Checks}
+use Rattle.table.specs.Promises.{notes-noted, Nodes-noted, Commands-counted, All-counted, Left, Checks}
 
 abbrev pub all-nodes : Words → Verdict
 all-nodes t = each (count t nodes) (node-fault t)
@@ -62,7 +62,7 @@ module _ (t : Words) where
 pub types-passed : (t : Words) → sections-fault t ≡ passes → types-fault t ≡ passes → Types-passed t
 unfolding types-fault
 types-passed t s e =
-    let p0 = or-else-passes (each 6 (section-fault t)) (words-over t) s in
+    let p0 = or-else-passes (each 6 (section-fault t)) (words-over t) (or-else-passes (edition-fault t) _ s .1) in
     let p1 = or-else-passes (each (count t records) (record-fault t)) _ e in
     let p2 = or-else-passes (field-sum-fault t) _ (p1 .1) in
     let p3 = or-else-passes (each (count t fields) (field-fault t)) _ (p2 .1) in
@@ -120,6 +120,6 @@ module _ (t first sizes offsets notes : Words) where
       rest-ended e = record { answer = rw e; first-is = rw sections-pass h; notes-is = notes-left; sizes-is = rw e; offsets-is = rw e; left = no-pass e }
 
       pub all-passed : {sizes′ offsets′ : Words} {r : Parsed} → check t ≡ passes → r ≡ layout-by t passes
-          → sizes′ ≡ sizes-noted t (count t records) sizes → offsets′ ≡ offsets-noted t (count t records) offsets → Left t first′ sizes′ offsets′ notes′
+          → sizes′ ≡ sizes-noted t (count t records) sizes → offsets′ ≡ offsets-noted t (count t records) offsets → Left edition-1 t first′ sizes′ offsets′ notes′
           → Checks t first first′ sizes sizes′ offsets offsets′ notes notes′ r
       all-passed e q a b l = record { answer = rw e q; first-is = rw sections-pass h; notes-is = notes-left; sizes-is = rw e a; offsets-is = rw e b; left = λ p. l }

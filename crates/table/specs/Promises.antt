@@ -5,14 +5,14 @@ use mathlib.Core.List.{[], _∷_}
 use lib.Dec.{eqb}
 use lib.ListN.{length}
 use Rattle.semantics.specs.Words.{Words, word, sum-below}
-use Rattle.semantics.specs.Table.{records, nodes, count, record-target, field-total, first-field, field-offset, size-of, place, value, children, node-type}
-use Rattle.semantics.specs.Check.{Verdict, passes, _or-else_, require, each, section-fault, words-over, node-fault, is-child, occurrences, command-place, command-value, uses, check}
-use Rattle.layout.specs.Layout.{layout-by}
+use Rattle.semantics.specs.Table.{Edition, edition-1, edition-2, edition, records, nodes, count, record-target, field-total, first-field, field-offset, size-of, place, value, children, node-type}
+use Rattle.semantics.specs.Check.{Verdict, passes, _or-else_, require, each, node-fault, is-child, occurrences, command-place, command-value, uses, check}
+use Rattle.layout.specs.Layout.{sections-fault, layout-by}
 use Rattle.layout.specs.Lists.{filled, by-verdict, passed-below}
 use Rattle.layout.specs.Types.{types-fault, Tabulated, first-left}
 use Rattle.layout.specs.declared.Parsed.{Parsed}
 use Rattle.sizes.specs.Sizes.{sizes-noted, offsets-noted}
-use Rattle.layout.specs.Notes.{note}
+use Rattle.layout.specs.Notes.{as-of, note}
 use Rattle.nodes.specs.Promises.{Noted-to}
 
 -- No use is counted yet.
@@ -23,7 +23,7 @@ pub record Clear (notes used : Words) : Type 0 where
 
 -- The list with the notes of the nodes before the first at fault.
 unfoldable pub notes-noted : Words → Words → Words
-notes-noted t l = filled l 0 (passed-below (count t nodes) (node-fault t)) (note t)
+notes-noted t l = filled l 0 (passed-below (count t nodes) (node-fault t)) (note edition-1 t)
 
 -- The nodes below n are noted, and their uses of each node are counted.
 pub record Nodes-noted (t notes used : Words) (n : ℕ) : Type 0 where
@@ -31,6 +31,11 @@ pub record Nodes-noted (t notes used : Words) (n : ℕ) : Type 0 where
   pub notes-length : length notes ≡ 512
   pub uses-length : length used ≡ 512
   pub counted : (i : ℕ) → word used i ≡ sum-below n (λ m. occurrences i (children t m))
+
+-- The notes of n nodes as a table of this edition has them.
+abbrev pub edition-noted : Edition → ℕ → Words → Words
+edition-noted edition-1 n l = l
+edition-noted edition-2 n l = filled l 0 n (λ i. as-of edition-2 (word l i))
 
 -- "in a command its two words (7), then 8", for a command with these two words at place p.
 unfoldable pub command-verdict : Words → ℕ → ℕ → ℕ → Verdict
@@ -63,16 +68,12 @@ pub record Lists-ready (first sizes offsets notes : Words) : Type 0 where
   pub offset-length : length offsets ≡ 128
   pub notes-length : length notes ≡ 512
 
--- What the check leaves where it passes.
-pub record Left (t first sizes offsets notes : Words) : Type 0 where
-  pub noted : (n : ℕ) → n < count t nodes → word notes n ≡ note t n
+-- What the check leaves where it passes, with notes as of this edition.
+pub record Left (e : Edition) (t first sizes offsets notes : Words) : Type 0 where
+  pub noted : (n : ℕ) → n < count t nodes → word notes n ≡ note e t n
   pub firsts : Tabulated first (count t records) (first-field t)
   pub size-is : (r : ℕ) → r < count t records → word sizes r ≡ size-of t (record-target r)
   pub offset-is : (r f : ℕ) → r < count t records → f < field-total t r → word offsets (first-field t r + f) ≡ field-offset t r f
-
--- What is turned away of the sections, before anything is noted.
-abbrev pub sections-fault : Words → Verdict
-sections-fault t = each 6 (section-fault t) or-else words-over t
 
 -- The answer of the whole check, and what its lists hold then, whether it passes or not: where a part is refused, the lists of the parts after
 -- it are as they were.
@@ -82,4 +83,4 @@ pub record Checks (t first first′ sizes sizes′ offsets offsets′ notes note
   pub notes-is : notes′ ≡ by-verdict (sections-fault t or-else types-fault t) (notes-noted t notes) notes
   pub sizes-is : sizes′ ≡ by-verdict (check t) (sizes-noted t (count t records) sizes) sizes
   pub offsets-is : offsets′ ≡ by-verdict (check t) (offsets-noted t (count t records) offsets) offsets
-  pub left : check t ≡ passes → Left t first′ sizes′ offsets′ notes′
+  pub left : check t ≡ passes → Left edition-1 t first′ sizes′ offsets′ notes′

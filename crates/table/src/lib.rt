@@ -1,15 +1,15 @@
-// The whole check of a table, which leaves the notes of its nodes and what its records are looked up by.
+// The whole check of a table, which leaves the notes of its nodes and what its records are looked up by. Then, for a run, what the edition adds to the notes.
 ghost use mathlib.Core.Path.{_≡_};
 ghost use mathlib.Core.Bool.{true};
 ghost use Prim.Native.Nat.{ℕ, _+_, _*_, _<_, _≤_, _^_};
 ghost use Rattle.semantics.specs.Words.{Words, word};
-ghost use Rattle.semantics.specs.Table.{nodes, count};
+ghost use Rattle.semantics.specs.Table.{edition, edition-2, nodes, count};
 ghost use Rattle.semantics.specs.Check.{each, node-fault, command-fault, use-fault};
 ghost use Rattle.semantics.proofs.Passed.{Types-passed};
 ghost use Rattle.layout.specs.Layout.{verdict-of, Stands, Laid-out};
 ghost use Rattle.layout.specs.Types.{Checked, Looked-up};
 ghost use Rattle.nodes.specs.Promises.{Noted-to};
-ghost use Rattle.table.specs.Promises.{Clear, notes-noted, Nodes-noted, command-verdict, Commands-ready, Commands-counted, All-counted, Lists-ready, Checks};
+ghost use Rattle.table.specs.Promises.{Clear, notes-noted, Nodes-noted, command-verdict, Commands-ready, Commands-counted, All-counted, Lists-ready, Checks, edition-noted};
 use layout::Entries;
 use layout::Firsts;
 use layout::Notes;
@@ -175,4 +175,24 @@ pub fn check(
     let records = l.records;
     note_sizes(t, l.fields, records.count, first, sizes, offsets);
     Parsed::Is(l)
+}
+
+// Adds to the notes of n nodes that base and end go with every value.
+fn note_bounds(n: usize, notes: &mut Notes)
+    requires { ⌜ (n ≤ 512) × ((i : ℕ) → i < n → word (now notes) i < 4096) ⌝ }
+    ensures { λ r. ⌜ now (notes .exit) ≡ edition-noted edition-2 n (now (notes .entry)) ⌝ }
+{
+    for i in 0..n {
+        notes[i] += note::BOUNDS;
+    }
+}
+
+// Adds to the notes of a table's n nodes what its edition asks for. Only a run goes by it, and an unmarked table has it already.
+pub fn note_edition(t: &[u32], n: usize, notes: &mut Notes)
+    requires { ⌜ (n ≤ 512) × ((i : ℕ) → i < n → word (now notes) i < 4096) ⌝ }
+    ensures { λ r. ⌜ now (notes .exit) ≡ edition-noted (edition (now (t .entry))) n (now (notes .entry)) ⌝ }
+{
+    if layout::is_marked(t) {
+        note_bounds(n, notes);
+    }
 }

@@ -5,12 +5,13 @@ use mathlib.Core.Path.{_≡_, refl, sym, ap, _∙_}
 use native.Mathlib.Omega.{arith}
 use lib.ListN.{length, drop}
 use Rattle.semantics.specs.Words.{Words}
-use Rattle.semantics.specs.Check.{Verdict, passes, refused, _or-else_, each, section-fault, words-over, check, call-fault}
+use Rattle.semantics.specs.Check.{Verdict, passes, refused, _or-else_, each, edition-fault, section-fault, words-over, check, call-fault}
 use Rattle.semantics.specs.Run.{refusal, ending, abort, call}
 use Rattle.semantics.specs.Explain.{explain}
 use Rattle.semantics.proofs.Safety.{begun}
 use Rattle.layout.specs.Layout.{parsed}
 use Rattle.layout.specs.declared.Parsed.the-variants as table
+use Rattle.layout.proofs.Laws.{or-else-assoc}
 use Rattle.layout.proofs.Sections.{parsed-refused}
 use Rattle.machine.specs.Explain.{answer-told, explained-of}
 use Rattle.machine.specs.declared.Explained.{Explained}
@@ -30,7 +31,9 @@ first-refused (refused m q) v w e = e
 
 table-fault : (t : Words) {n p : ℕ} → parsed t ≡ table.Refused n p → check t ≡ refused n p
 unfolding check
-table-fault t e = first-refused (each 6 (section-fault t)) (words-over t) _ (parsed-refused t e)
+table-fault t e =
+    ap (λ v. edition-fault t or-else v) (sym (or-else-assoc (each 6 (section-fault t)) (words-over t) _))
+    ∙ first-refused (edition-fault t) (each 6 (section-fault t) or-else words-over t) _ (parsed-refused t e)
 
 module _ (t inputs l vs bs es : Words) where
   refusal-is : {n p : ℕ} → parsed t ≡ table.Refused n p → explained-of (Refused n p) vs bs es ≡ explain t inputs l vs bs es

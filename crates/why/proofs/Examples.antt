@@ -3,7 +3,7 @@ use Prim.Native.Nat.{ℕ}
 use mathlib.Core.List.{List, [], _∷_, map}
 use mathlib.Core.Path.{_≡_, refl}
 use Rattle.semantics.specs.Words.{Words, sum-below, least-below}
-use Rattle.semantics.specs.Table.{count-place, count, item-place, item}
+use Rattle.semantics.specs.Table.{edition, count-place, count, item-place, item}
 use Rattle.semantics.specs.Registers.{register-place, register-start}
 use Rattle.text.specs.Decimal.{last-digits}
 use Rattle.stream.specs.Items.{item-bytes, bytes-of}
@@ -50,5 +50,5 @@ so-it-reads : map printed
     ∷ "noroom 2 7\nthe run did not abort\n"
     ∷ "refused 8 29\n"
     ∷ [])
-unfolding sum-below least-below count-place count item-place item register-place register-start last-digits item-bytes bytes-of ending-line ascii register-with owner-above owner-of owner-text kind-text node-text wanted-text bounds-text reason-text cause-line ended-line not-aborted-lines told-lines
+unfolding sum-below least-below edition count-place count item-place item register-place register-start last-digits item-bytes bytes-of ending-line ascii register-with owner-above owner-of owner-text kind-text node-text wanted-text bounds-text reason-text cause-line ended-line not-aborted-lines told-lines
 so-it-reads = refl

@@ -18,8 +18,8 @@ result-requires c κs = value-next (c .before .before .before .before .assigned 
 returns-2 : tie.Need-returns-2
 returns-2 c = (value-ended (c .before .before .before .before .before .before .assigned .ensures .0) (c .before .before .before .before .before .if1 .left) (c .before .result .ensures .0) (c .if2 .taken), c .before .result .ensures .1 ∙ c .before .before .before .before .before .before .assigned .ensures .1)
 
-type-of-requires : tie.Need-type-of-requires
-type-of-requires c κs = let k = c .before .before .before .before .pre .nodes-are in note-inside (k .lists-of) (k .value-node)
+bounds-of-requires : tie.Need-bounds-of-requires
+bounds-of-requires c κs = let k = c .before .before .before .before .pre .nodes-are in note-inside (k .lists-of) (k .value-node)
 
 store-requires : tie.Need-store-requires
 store-requires c κs =
@@ -27,10 +27,10 @@ store-requires c κs =
 
 returns-3 : tie.Need-returns-3
 returns-3 c = (
-  command-done (c .before .before .before .before .before .before .before .before .before .before .before .before .before .assigned .ensures .0) (c .before .before .before .before .before .before .before .before .before .before .before .before .if1 .left) (c .before .before .before .before .before .before .before .before .result .ensures .0) (c .before .before .before .before .before .before .before .if2 .left) (c .before .before .before .before .before .before .before .before .before .before .before .type-of .ensures) refl refl
+  command-done (c .before .before .before .before .before .before .before .before .before .before .before .before .before .assigned .ensures .0) (c .before .before .before .before .before .before .before .before .before .before .before .before .if1 .left) (c .before .before .before .before .before .before .before .before .result .ensures .0) (c .before .before .before .before .before .before .before .if2 .left) (c .before .before .before .before .before .before .before .before .before .before .before .bounds-of .ensures) refl refl
       (rw (c .before .before .before .before .index .ensures .0, c .before .before .before .before .before .low .ensures, c .before .before .before .low2 .ensures) at (c .store .ensures .0)),
   c .store .ensures .1 ∙ c .before .before .before .before .before .before .before .before .result .ensures .1 ∙ c .before .before .before .before .before .before .before .before .before .before .before .before .before .assigned .ensures .1,
 )
 
 pub command-spec : {M : Type 1} → statement M
-command-spec = tie.close (tie.spec assigned-requires returns type-of-requires result-requires returns-2 (λ c κs. search needs) (λ c κs. search needs) (λ c κs. search needs) (λ c. search needs) (λ c. search needs) store-requires returns-3)
+command-spec = tie.close (tie.spec assigned-requires returns bounds-of-requires result-requires returns-2 (λ c κs. search needs) (λ c κs. search needs) (λ c κs. search needs) (λ c. search needs) (λ c. search needs) store-requires returns-3)

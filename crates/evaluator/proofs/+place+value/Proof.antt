@@ -17,6 +17,7 @@ use Rattle.evaluator.proofs.+place+value.Lts-value as value-lts
 use Rattle.lookups.proofs.drops.Reads as drops-reads
 use Rattle.evaluator.proofs.read_variable.Reads as read-variable-reads
 use Rattle.evaluator.proofs.size.Reads as size-reads
+use Rattle.lookups.proofs.bounds_in.Reads as bounds-in-reads
 use Rattle.lookups.proofs.child.Reads as child-reads
 use Rattle.lookups.proofs.count.Reads as count-reads
 use Rattle.lookups.proofs.is_constant.Reads as is-constant-reads
@@ -25,7 +26,6 @@ use Rattle.lookups.proofs.noted.Reads as noted-reads
 use Rattle.lookups.proofs.of_variable.Reads as of-variable-reads
 use Rattle.lookups.proofs.offset.Reads as offset-reads
 use Rattle.lookups.proofs.step.Reads as step-reads
-use Rattle.lookups.proofs.type_in.Reads as type-in-reads
 use Rattle.lookups.proofs.type_of.Reads as type-of-reads
 use Rattle.steps.proofs.add.Reads as add-reads
 use Rattle.steps.proofs.allocate.Reads as allocate-reads
@@ -91,7 +91,7 @@ pub +place+value-spec : {M : Type 1} → statement M
     (λ c. (variable-answer (c .before .before .before .before .item .ensures) (c .before .before .item2 .ensures) (c .before .before .before .match .keys1) (c .variable .ensures), refl))
     (λ c. (deref-answer (c .before .before .before .before .before .before .before .item .ensures) (c .before .before .before .before .before .child .ensures) (c .before .before .before .before .before .before .match .keys2) (c .deref .ensures _) (⊎-elim (λ w. joined (w .4) (w .5) (w .6) (w .3 .ensures .0)) (λ w. joined (w .4) (w .5) (w .6) (w .3 .ensures .0)) (c .before .before .if1 .came)), ⊎-elim (λ w. kept-names (w .4) ∙ kept-names (w .3 .ensures .1)) (λ w. kept-names (w .4) ∙ w .3 .ensures .1) (c .before .before .if1 .came)))
     (λ c. (field-answer (c .before .before .before .before .before .before .before .before .before .item .ensures) (c .before .before .before .before .before .before .before .child2 .ensures) (is-field (c .before .before .before .before .before .before .before .before .before .before .pre .1) (c .before .before .before .before .before .before .before .before .before .item .ensures) (c .before .before .before .before .before .before .before .before .match .rest .0 .1) (c .before .before .before .before .before .before .before .before .match .rest .1)) (c .before .before .before .offset .ensures) (c .before .before .count .ensures) (c .field .ensures _) (⊎-elim (λ w. joined (w .4) (w .5) (w .6) (w .3 .ensures .0)) (λ w. joined (w .4) (w .5) (w .6) (w .3 .ensures .0)) (c .before .before .before .before .if2 .came)), ⊎-elim (λ w. kept-names (w .4) ∙ kept-names (w .3 .ensures .1)) (λ w. kept-names (w .4) ∙ w .3 .ensures .1) (c .before .before .before .before .if2 .came))))
-    (λ t. value-lts.spec (item-reads.Asked, item-reads.Learnt, number-reads.Asked, number-reads.Learnt, child-reads.Asked, child-reads.Learnt, noted-reads.Asked, noted-reads.Learnt, of-variable-reads.Asked, of-variable-reads.Learnt, read-variable-reads.Asked, read-variable-reads.Learnt, value-below t, value.Post, type-of-reads.Asked, type-of-reads.Learnt, step-reads.Asked, step-reads.Learnt, is-constant-reads.Asked, is-constant-reads.Learnt, long-reads.Asked, long-reads.Learnt, add-reads.Asked, add-reads.Learnt, sum-reads.Asked, sum-reads.Learnt, place-below t, place.Post, type-in-reads.Asked, type-in-reads.Learnt, load-reads.Asked, load-reads.Learnt, drops-reads.Asked, drops-reads.Learnt, drop-bounds-reads.Asked, drop-bounds-reads.Learnt, size-reads.Asked, size-reads.Learnt, words-reads.Asked, words-reads.Learnt, allocate-reads.Asked, allocate-reads.Learnt, narrow-reads.Asked, narrow-reads.Learnt, low-reads.Asked, low-reads.Learnt, copy-reads.Asked, copy-reads.Learnt) (value-at t) value.Post
+    (λ t. value-lts.spec (item-reads.Asked, item-reads.Learnt, number-reads.Asked, number-reads.Learnt, child-reads.Asked, child-reads.Learnt, noted-reads.Asked, noted-reads.Learnt, of-variable-reads.Asked, of-variable-reads.Learnt, read-variable-reads.Asked, read-variable-reads.Learnt, value-below t, value.Post, type-of-reads.Asked, type-of-reads.Learnt, step-reads.Asked, step-reads.Learnt, is-constant-reads.Asked, is-constant-reads.Learnt, long-reads.Asked, long-reads.Learnt, add-reads.Asked, add-reads.Learnt, sum-reads.Asked, sum-reads.Learnt, place-below t, place.Post, bounds-in-reads.Asked, bounds-in-reads.Learnt, load-reads.Asked, load-reads.Learnt, drops-reads.Asked, drops-reads.Learnt, drop-bounds-reads.Asked, drop-bounds-reads.Learnt, size-reads.Asked, size-reads.Learnt, words-reads.Asked, words-reads.Learnt, allocate-reads.Asked, allocate-reads.Learnt, narrow-reads.Asked, narrow-reads.Learnt, low-reads.Asked, low-reads.Learnt, copy-reads.Asked, copy-reads.Learnt) (value-at t) value.Post
     (λ c κs. item-at (c .pre .1) 0 (omega arith))
     (λ c κs. item-at (c .before .before .pre .1) 1 (omega arith))
     (λ c κs. c .before .before .before .before .pre .1 .room)
@@ -167,7 +167,7 @@ pub +place+value-spec : {M : Type 1} → statement M
     (λ c κs. let i = copy-inside (c .before .before .before .before .before .before .before .before .before .before .before .before .before .before .before .before .before .before .before .before .before .before .before .before .before .before .before .before .before .pre .1) (c .before .before .before .before .before .before .before .before .before .before .before .before .before .before .before .before .before .before .before .before .before .before .before .before .before .before .before .before .item .ensures) (is-copy (c .before .before .before .before .before .before .before .before .before .before .before .before .before .before .before .before .before .before .before .before .before .before .before .before .before .before .before .before .before .pre .1) (c .before .before .before .before .before .before .before .before .before .before .before .before .before .before .before .before .before .before .before .before .before .before .before .before .before .before .before .before .item .ensures) (last-kinds (c .before .before .before .before .before .before .before .before .before .before .before .before .before .before .before .before .before .before .before .before .before .before .before .before .before .before .before .before .before .pre .1) (c .before .before .before .before .before .before .before .before .before .before .before .before .before .before .before .before .before .before .before .before .before .before .before .before .before .before .before .before .item .ensures) (c .before .before .before .before .before .before .before .before .before .before .before .before .before .before .before .before .before .before .before .before .before .before .before .before .before .before .before .match .rest .0 .0 .0 .0 .0 .1) (c .before .before .before .before .before .before .before .before .before .before .before .before .before .before .before .before .before .before .before .before .before .before .before .before .before .before .before .match .rest .0 .0 .0 .0 .1) (c .before .before .before .before .before .before .before .before .before .before .before .before .before .before .before .before .before .before .before .before .before .before .before .before .before .before .before .match .rest .0 .0 .0 .1) (c .before .before .before .before .before .before .before .before .before .before .before .before .before .before .before .before .before .before .before .before .before .before .before .before .before .before .before .match .rest .0 .0 .1) (c .before .before .before .before .before .before .before .before .before .before .before .before .before .before .before .before .before .before .before .before .before .before .before .before .before .before .before .match .rest .0 .1) (c .before .before .before .before .before .before .before .before .before .before .before .before .before .before .before .before .before .before .before .before .before .before .before .before .before .before .before .match .rest .1)) (c .before .before .before .before .before .before .before .before .before .before .before .before .before .before .before .before .before .before .before .before .before .before .item5 .ensures) (c .before .before .before .before .before .before .before .before .before .before .before .before .before .before .before .before .before .before .before .before .before .if7 .left)) (c .before .before .before .before .before .before .before .before .before .before .before .before .before .before .before .before .before .before .before .before .before .before .before .before .before .before .child7 .ensures) (c .before .before .before .before .before .before .before .before .before .child9 .ensures) (c .before .before .before .before .before .before .before .before .before .before .before .before .before .before .before .before .before .value6 .ensures .0) (c .before .before .before .before .before .before .before .before .before .before .before .before .before .before .before .before .if8 .left) (c .before .before .before .value7 .ensures .0) in ((copy-asks (c .before .before .before .before .before .before .before .before .before .before .before .before .before .before .before .before .before .before .before .before .before .before .before .before .before .before .before .before .before .pre .1) (c .before .before .before .before .before .before .before .before .before .before .before .before .before .before .before .before .before .before .before .before .before .before .before .before .before .before .before .before .item .ensures) (c .before .before .before .before .before .before .before .before .before .before .before .before .child8 .ensures) (is-copy (c .before .before .before .before .before .before .before .before .before .before .before .before .before .before .before .before .before .before .before .before .before .before .before .before .before .before .before .before .before .pre .1) (c .before .before .before .before .before .before .before .before .before .before .before .before .before .before .before .before .before .before .before .before .before .before .before .before .before .before .before .before .item .ensures) (last-kinds (c .before .before .before .before .before .before .before .before .before .before .before .before .before .before .before .before .before .before .before .before .before .before .before .before .before .before .before .before .before .pre .1) (c .before .before .before .before .before .before .before .before .before .before .before .before .before .before .before .before .before .before .before .before .before .before .before .before .before .before .before .before .item .ensures) (c .before .before .before .before .before .before .before .before .before .before .before .before .before .before .before .before .before .before .before .before .before .before .before .before .before .before .before .match .rest .0 .0 .0 .0 .0 .1) (c .before .before .before .before .before .before .before .before .before .before .before .before .before .before .before .before .before .before .before .before .before .before .before .before .before .before .before .match .rest .0 .0 .0 .0 .1) (c .before .before .before .before .before .before .before .before .before .before .before .before .before .before .before .before .before .before .before .before .before .before .before .before .before .before .before .match .rest .0 .0 .0 .1) (c .before .before .before .before .before .before .before .before .before .before .before .before .before .before .before .before .before .before .before .before .before .before .before .before .before .before .before .match .rest .0 .0 .1) (c .before .before .before .before .before .before .before .before .before .before .before .before .before .before .before .before .before .before .before .before .before .before .before .before .before .before .before .match .rest .0 .1) (c .before .before .before .before .before .before .before .before .before .before .before .before .before .before .before .before .before .before .before .before .before .before .before .before .before .before .before .match .rest .1)) (c .before .before .before .before .before .before .before .before .before .before .before .before .before .before .before .before .before .before .before .before .before .before .item5 .ensures) (c .before .before .before .before .before .before .before .before .before .before .before .before .before .before .before .before .before .before .before .before .before .if7 .left)) (c .before .before .before .before .before .before .before .before .before .before .before .type-of2 .ensures) (c .before .before .before .before .before .before .before .before .before .before .step2 .ensures), c .before .before .before .value7 .ensures .0 .room), (i .0, i .1)))
     (λ c. (constant-answer (c .before .before .item2 .ensures) (λ t lists node. constant-kind lists node (c .before .before .before .before .item .ensures) (c .before .before .before .match .keys1)) (c .number .ensures), refl))
     (λ c. (sum-answer (c .before .before .before .before .before .before .before .before .before .before .before .before .before .before .before .before .before .before .before .before .item .ensures) (c .before .before .before .before .before .before .before .before .before .before .before .before .before .before .before .before .before .before .child .ensures) (⊎-elim (λ w. joined (w .4) (w .5) (w .6) (w .3 .ensures .0)) (λ w. joined (w .4) (w .5) (w .6) (w .3 .ensures .0)) (c .before .before .before .before .before .before .before .before .before .before .before .before .before .before .before .if1 .came)) (c .before .before .before .before .before .before .before .before .before .before .child3 .ensures) (c .before .before .before .before .before .before .before .before .before .before .before .before .before .before .if2 .left) (c .before .before .before .before .before .before .before .before .before .before .before .before .before .child2 .ensures) (c .before .before .before .before .before .before .before .before .before .before .before .before .type-of .ensures) (c .before .before .before .before .before .before .before .before .before .before .before .step .ensures) (c .before .before .before .before .before .before .before .before .before .before .before .before .before .before .before .before .before .before .before .match .keys2) (c .before .before .value2 .ensures .0) (c .sum .ensures _), c .before .before .value2 .ensures .1 ∙ ⊎-elim (λ w. kept-names (w .4) ∙ kept-names (w .3 .ensures .1)) (λ w. kept-names (w .4) ∙ w .3 .ensures .1) (c .before .before .before .before .before .before .before .before .before .before .before .before .before .before .before .if1 .came)))
-    (λ c. (kept-lists (c .load .ensures .1) (read-answer (c .before .before .before .before .before .before .before .before .before .before .before .before .item .ensures) (c .before .before .before .before .before .before .before .before .before .before .child4 .ensures) (c .before .before .before .before .before .before .before .before .before .before .before .match .keys3) (c .before .before .type-in .ensures ∙ ap (λ x. x % 128) (c .before .before .before .before .before .before .before .before .before .noted3 .ensures)) (c .before .before .before .before .place .ensures .0) (c .load .ensures .0)), kept-names (c .load .ensures .1) ∙ c .before .before .before .before .place .ensures .1))
+    (λ c. (kept-lists (c .load .ensures .1) (read-answer (c .before .before .before .before .before .before .before .before .before .before .before .before .item .ensures) (c .before .before .before .before .before .before .before .before .before .before .child4 .ensures) (c .before .before .before .before .before .before .before .before .before .before .before .match .keys3) (c .before .before .bounds-in .ensures ∙ ap (λ x. x % 256) (c .before .before .before .before .before .before .before .before .before .noted3 .ensures)) (c .before .before .before .before .place .ensures .0) (c .load .ensures .0)), kept-names (c .load .ensures .1) ∙ c .before .before .before .before .place .ensures .1))
     (λ c. (address-answer (c .before .before .before .before .before .item .ensures) (c .before .before .child5 .ensures) (c .before .before .before .before .match .keys4) (c .place2 .ensures .0), c .place2 .ensures .1))
     (λ c. (keep-answer (c .before .before .before .before .before .before .before .item .ensures) (c .before .before .before .before .before .child6 .ensures) (c .before .before .before .before .before .before .match .keys5) (c .before .before .before .before .drops .ensures) (c .before .before .before .if5 .left) (c .value4 .ensures .0), c .value4 .ensures .1))
     (λ c. (let k = size-ready (c .before .before .before .before .pre .1) (c .before .before .before .item .ensures) (c .before .before .match .keys6) .1 in size-answer (c .before .before .before .item .ensures) refl (c .before .before .match .keys6) (c .size .ensures) (c .size .ensures (k .table) (k .is-known) .room), refl))

@@ -17,8 +17,8 @@ child-requires c κs = item-at (c .pre .0) 1 (omega arith)
 item-requires : tie.Need-item-requires
 item-requires c κs = item-of (c .before .before .pre .0) (variable-below (c .before .child .ensures) (c .before .before .pre .0) (c .before .before .pre .1)) 1 (omega arith)
 
-type-of-requires : tie.Need-type-of-requires
-type-of-requires c κs = note-of (c .before .before .before .before .pre .0) (variable-below (c .before .before .before .child .ensures) (c .before .before .before .before .pre .0) (c .before .before .before .before .pre .1))
+bounds-of-requires : tie.Need-bounds-of-requires
+bounds-of-requires c κs = note-of (c .before .before .before .before .pre .0) (variable-below (c .before .before .before .child .ensures) (c .before .before .before .before .pre .0) (c .before .before .before .before .pre .1))
 
 fetch-requires : tie.Need-fetch-requires
 fetch-requires c κs =
@@ -32,7 +32,7 @@ returns c =
     let i = c .before .before .before .index .ensures .0 ∙ c .before .before .before .before .item .ensures in
     let w = variable-inside (c .before .before .before .before .before .before .child .ensures) (c .before .before .before .before .before .before .before .pre .1) i refl h in
     let under : c .before .before .before .index .result + 1 < failed = omega (arith, w) in
-    (kept-lists (c .fetch .ensures .1) (variable-read (c .before .before .before .before .before .before .child .ensures) (c .before .before .before .before .before .before .before .pre .1) i refl under (c .before .before .type-of .ensures) (load-done _ _ under (c .fetch .ensures .0))), c .fetch .ensures .1)
+    (kept-lists (c .fetch .ensures .1) (variable-read (c .before .before .before .before .before .before .child .ensures) (c .before .before .before .before .before .before .before .pre .1) i refl under (c .before .before .bounds-of .ensures) (load-done _ _ under (c .fetch .ensures .0))), c .fetch .ensures .1)
 
 pub read-variable-spec : {M : Type 1} → statement M
-read-variable-spec = tie.close (tie.spec child-requires item-requires (λ c κs. search needs) (λ c. search needs) type-of-requires fetch-requires returns)
+read-variable-spec = tie.close (tie.spec child-requires item-requires (λ c κs. search needs) (λ c. search needs) bounds-of-requires fetch-requires returns)

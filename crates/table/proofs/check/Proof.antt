@@ -11,7 +11,8 @@ use Rattle.layout.specs.declared.Parsed.the-variants.{Is}
 use Rattle.layout.proofs.Sections.{parsed-passes, parsed-refused, laid-out}
 use Rattle.layout.proofs.Types.{zeros}
 use Rattle.nodes.proofs.Answers.{verdict-refuses, verdict-passes}
-use Rattle.table.specs.Promises.{All-counted, sections-fault}
+use Rattle.layout.specs.Layout.{sections-fault}
+use Rattle.table.specs.Promises.{All-counted}
 use Rattle.table.proofs.Nodes.{few-uses}
 use Rattle.table.proofs.Whole.{records-noted, all-nodes, all-commands, all-uses, nodes-refuse, commands-refuse, past-commands, types-passed, all-counted, parsed-layout, sections-ended, types-ended, rest-ended, all-passed}
 use Rattle.table.proofs.check.Statement.{statement}

@@ -4,7 +4,7 @@ use native.Mathlib.Omega.{arith}
 use denote.Ref.{now}
 use Prim.Native.Nat.{_-_, _≤_, _<_}
 use mathlib.Core.Path.{_≡_, sym}
-use Rattle.semantics.specs.Table.{count}
+use Rattle.semantics.specs.Table.{edition-1, count}
 use Rattle.layout.specs.Lists.{filled}
 use Rattle.layout.proofs.Laws.{refusal, each-refuses, each-all}
 use Rattle.layout.proofs.Lists.{filled-none}
@@ -16,7 +16,7 @@ use Rattle.table.proofs.check_nodes.Statement.{statement}
 use Rattle.table.proofs.check_nodes.Tie as tie
 
 abbrev Inv-loop : tie.InvT-loop
-Inv-loop t first entry notes₀ uses₀ records fields pointers variables at count n₀ notes uses n = (n ≤ count) × (Nodes-noted t notes uses n) × (notes ≡ filled notes₀ 0 n (note t))
+Inv-loop t first entry notes₀ uses₀ records fields pointers variables at count n₀ notes uses n = (n ≤ count) × (Nodes-noted t notes uses n) × (notes ≡ filled notes₀ 0 n (note edition-1 t))
 
 abbrev μ-loop : tie.MeasureT-loop
 μ-loop t first entry notes₀ uses₀ records fields pointers variables at count n₀ notes uses n = count - n
