@@ -46,7 +46,8 @@ fn samples() -> Vec<Sample> {
 }
 
 fn count_nodes(table: &[u32]) -> usize {
-    let mut at = 0;
+    // A mark and its edition stand before the sections.
+    let mut at = if table[0] == u32::MAX { 2 } else { 0 };
     for width in [1, 2, 1, 1] {
         at += 1 + width * table[at] as usize;
     }

@@ -1,9 +1,11 @@
 //! Random cases, the same ones for the same seed and index.
 
+mod carried;
 mod copies;
 mod copying;
 mod damage;
 mod deep;
+mod edition;
 mod expression;
 mod known;
 mod pointer;
@@ -20,11 +22,16 @@ use random::Random;
 use routine::Routine;
 use types::Types;
 
-/// Appends the line of case `index` of a seed, its byte 10 included.
+/// Appends the line of case `index` of a seed, its byte 10 included. Each tenth
+/// is the one before it in the other edition.
 pub fn line(seed: u64, index: u64, out: &mut Vec<u8>) {
-    let mut random = Random::new(seed, index);
+    let again = index % 10 == 9;
+    let mut random = Random::new(seed, index - u64::from(again));
     let start = out.len();
-    let case = case(&mut random);
+    let mut case = case(&mut random);
+    if again {
+        edition::change(&mut case.table);
+    }
     case.write(out);
     if random.below(400) == 0 {
         spoil(&mut random, out, start);
@@ -33,7 +40,7 @@ pub fn line(seed: u64, index: u64, out: &mut Vec<u8>) {
 
 /// The mixture of cases, in thousandths.
 fn case(random: &mut Random) -> Case {
-    let mut case = match random.weighted(&[570, 215, 95, 50, 35, 15, 20]) {
+    let mut case = match random.weighted(&[560, 225, 95, 50, 35, 15, 20]) {
         0 => well_formed(random).case(),
         1 => damaged(random),
         2 => {
@@ -58,9 +65,10 @@ fn case(random: &mut Random) -> Case {
 }
 
 fn well_formed(random: &mut Random) -> Routine {
-    match random.percent(25) {
-        true => shuffled(random, Routine::copying),
-        false => shuffled(random, Routine::small),
+    match random.weighted(&[56, 21, 23]) {
+        0 => shuffled(random, Routine::small),
+        1 => shuffled(random, Routine::copying),
+        _ => shuffled(random, Routine::carrying),
     }
 }
 
@@ -70,8 +78,12 @@ fn damaged(random: &mut Random) -> Case {
     let mut routine = well_formed(random);
     let wrong_copy = random.percent(15) && routine.add_wrong_copy(random);
     let mut case = routine.case();
-    if !wrong_copy || random.percent(25) {
-        damage::damage(random, &mut case);
+    if wrong_copy && random.percent(75) {
+        return case;
+    }
+    match random.percent(20) {
+        true => damage::mark(random, &mut case),
+        false => damage::damage(random, &mut case),
     }
     case
 }
@@ -87,9 +99,30 @@ fn shuffled(random: &mut Random, make: fn(&mut Random) -> Routine) -> Routine {
 
 /// A routine up to the limits of the table, sometimes damaged.
 fn large(random: &mut Random) -> Case {
+    let routine = match random.percent(25) {
+        true => full(random),
+        false => nearly_full(random),
+    };
+    let mut case = routine.case();
+    if random.percent(30) {
+        damage::damage(random, &mut case);
+    }
+    case
+}
+
+/// Every section at its limit. With two nodes a command, these can only be the
+/// shortest.
+fn full(random: &mut Random) -> Routine {
+    let types = Types::full(random);
+    let mut routine = Routine::new(random, types, 8, 50);
+    routine.fill(random, 256);
+    routine
+}
+
+fn nearly_full(random: &mut Random) -> Routine {
     let types = Types::large(random);
     let room = random.between(20, 400);
-    let mut routine = Routine::new(random, types, room);
+    let mut routine = Routine::new(random, types, room, 33);
     let count = random.pick(&[40, 100, 256]);
     routine.grow(random, count);
     if random.percent(40) {
@@ -99,11 +132,7 @@ fn large(random: &mut Random) -> Case {
     if random.percent(50) {
         routine.shuffle(random);
     }
-    let mut case = routine.case();
-    if random.percent(30) {
-        damage::damage(random, &mut case);
-    }
-    case
+    routine
 }
 
 /// Makes the line that begins at `start` no case, or almost none, in a way that

@@ -1,6 +1,6 @@
 //! The check and the run of document 01, with registers handed in, with steps
-//! by records, with a reason for every abort and with whole records copied. No
-//! input or output happens here.
+//! by records, with a reason for every abort, with whole records copied and
+//! with edition 2. No input or output happens here.
 //!
 //! [`check`] judges a table alone. [`run`] is the whole call: the check, the
 //! conditions on the call (10, 11, 13 to 15), then the routine. [`explain`] is
@@ -97,7 +97,7 @@ thread_local! {
     static MACHINE: RefCell<Machine> = const { RefCell::new(Machine::new()) };
 }
 
-/// The check alone: refusals 1 to 9, or pass.
+/// The check alone: refusals 1 to 9 and 16, or pass.
 pub fn check(table: &[u32]) -> Verdict {
     MACHINE.with_borrow_mut(|machine| match machine.check(table) {
         Ok(_) => Verdict::Pass,
@@ -205,8 +205,12 @@ impl Checked<'_, '_> {
         match self.admit(inputs, registers, lengths) {
             Ok(registers) => {
                 let unused = begin(inputs, registers, values, bases, ends, &mut watch);
-                let mut memory = Memory::new(self, values, bases, ends, unused, watch);
-                memory.execute(self.layout.commands)
+                let lists = [values, bases, ends];
+                let commands = self.layout.commands;
+                match self.layout.marked {
+                    false => Memory::<_, false>::new(self, lists, unused, watch).execute(commands),
+                    true => Memory::<_, true>::new(self, lists, unused, watch).execute(commands),
+                }
             }
             Err(refusal) => Answer::Refused(refusal),
         }

@@ -2,9 +2,11 @@
 //! to compare".
 
 mod ran;
+mod starred;
 
 use ran::{abort, done, no_room, words, Ran};
 use second::machine::{check, run, Answer, Refusal, Verdict};
+use starred::*;
 
 /// A run with the list `0`.
 fn without_registers(table: &[u32], inputs: &[u32], length: usize) -> Ran {
@@ -120,88 +122,9 @@ fn routine_a() {
     assert!((7..16).chain([0]).all(|word| ran.word(word) == [0; 3]));
 }
 
-/// Routines over one variable p, pointer to int, in memory of 4 words.
-#[derive(Default)]
-struct Routine {
-    nodes: Vec<u32>,
-    commands: Vec<u32>,
-}
-
-const INT: u32 = 0;
-const POINTER: u32 = 2;
-
-impl Routine {
-    fn node(&mut self, kind: u32, a: u32, b: u32) -> u32 {
-        self.nodes.extend([kind, a, b]);
-        self.nodes.len() as u32 / 3 - 1
-    }
-
-    fn number(&mut self, word: u32) -> u32 {
-        self.node(4, word, 0)
-    }
-
-    fn variable(&mut self) -> u32 {
-        self.node(1, 0, 0)
-    }
-
-    fn p(&mut self) -> u32 {
-        let variable = self.variable();
-        self.node(6, variable, 0)
-    }
-
-    /// `p + n`
-    fn p_plus(&mut self, n: u32) -> u32 {
-        let p = self.p();
-        let n = self.number(n);
-        self.node(5, p, n)
-    }
-
-    fn deref(&mut self, value: u32) -> u32 {
-        self.node(2, value, 0)
-    }
-
-    fn cast(&mut self, value: u32, typ: u32) -> u32 {
-        self.node(8, value, typ)
-    }
-
-    fn malloc(&mut self, n: u32) -> u32 {
-        let n = self.number(n);
-        self.node(10, n, 0)
-    }
-
-    fn assign(&mut self, place: u32, value: u32) {
-        self.commands.extend([place, value]);
-    }
-
-    /// `p = (int*)malloc(n)`
-    fn p_gets_block(mut self, n: u32) -> Routine {
-        let place = self.variable();
-        let block = self.malloc(n);
-        let block = self.cast(block, POINTER);
-        self.assign(place, block);
-        self
-    }
-
-    /// `*(p + n) = word`
-    fn store(mut self, n: u32, word: u32) -> Routine {
-        let pointer = self.p_plus(n);
-        let place = self.deref(pointer);
-        let value = self.number(word);
-        self.assign(place, value);
-        self
-    }
-
-    fn run(&self) -> Ran {
-        let mut table = vec![0, 0, 1, INT, 1, POINTER, self.nodes.len() as u32 / 3];
-        table.extend(&self.nodes);
-        table.push(self.commands.len() as u32 / 2);
-        table.extend(&self.commands);
-        without_registers(&table, &[0], 4)
-    }
-}
-
-fn m() -> Routine {
-    Routine::default().p_gets_block(2)
+/// A starred run with commands.
+fn starred(routine: Routine) -> Ran {
+    routine.run(&[])
 }
 
 #[test]
@@ -213,87 +136,47 @@ fn nothing_at_all() {
 
 #[test]
 fn blocks() {
-    let ran = m().run();
+    let ran = starred(m());
     assert_eq!((ran.answer, ran.word(1)), (done(4), [2, 2, 4]));
-    let ran = Routine::default().p_gets_block(3).run();
-    assert_eq!(ran.answer, no_room(0, 2));
-    let ran = Routine::default().p_gets_block(0).run();
+    assert_eq!(starred(block(3)).answer, no_room(0, 2));
+    let ran = starred(block(0));
     assert_eq!((ran.answer, ran.word(1)), (done(2), [0, 0, 0]));
 }
 
 #[test]
 fn stores_in_and_out_of_bounds() {
-    let ran = m().store(1, 5).run();
+    let ran = starred(m().store(1, 5));
     assert_eq!((ran.answer, ran.values[3]), (done(4), 5));
-    assert_eq!(m().store(2, 5).run().answer, abort(1, 4));
-    assert_eq!(m().store(u32::MAX, 5).run().answer, abort(1, 4));
+    assert_eq!(starred(m().store(2, 5)).answer, abort(1, 4));
+    assert_eq!(starred(m().store(u32::MAX, 5)).answer, abort(1, 4));
 }
 
 #[test]
-fn forged_pointer() {
-    let mut routine = m();
-    let place = routine.variable();
-    let two = routine.number(2);
-    let two = routine.cast(two, POINTER);
-    routine.assign(place, two);
-    assert_eq!(routine.store(0, 5).run().answer, abort(2, 4));
+fn a_forged_pointer() {
+    assert_eq!(starred(forged_pointer()).answer, abort(2, 4));
 }
 
 #[test]
 fn address_of_an_element_keeps_the_bounds() {
-    let mut routine = m();
-    let place = routine.variable();
-    let element = routine.p_plus(1);
-    let element = routine.deref(element);
-    let address = routine.node(7, element, 0);
-    routine.assign(place, address);
-    let ran = routine.store(u32::MAX, 7).run();
+    let ran = starred(address_of_an_element());
     assert_eq!((ran.answer, ran.values[2]), (done(4), 7));
 }
 
-/// `*(int*)&p` needs a pointer to p's type: one more pointer entry.
 #[test]
 fn int_store_over_a_pointer_keeps_its_bounds() {
-    let mut routine = m();
-    let variable = routine.variable();
-    let address = routine.node(7, variable, 0);
-    let address = routine.cast(address, POINTER);
-    let place = routine.deref(address);
-    let three = routine.number(3);
-    routine.assign(place, three);
-    let routine = routine.store(0, 8);
-    let mut table = vec![0, 0, 2, INT, POINTER, 1, POINTER];
-    table.push(routine.nodes.len() as u32 / 3);
-    table.extend(&routine.nodes);
-    table.push(3);
-    table.extend(&routine.commands);
-    let ran = without_registers(&table, &[0], 4);
+    let ran = starred(int_store_over_a_pointer());
     assert_eq!((ran.answer, ran.values[3]), (done(4), 8));
     assert_eq!(ran.word(1), [3, 2, 4]);
 }
 
 #[test]
-fn place_before_value() {
-    let mut routine = m();
-    let pointer = routine.p_plus(2);
-    let place = routine.deref(pointer);
-    let block = routine.malloc(9);
-    let value = routine.cast(block, INT);
-    routine.assign(place, value);
-    assert_eq!(routine.run().answer, abort(1, 4));
+fn a_place_before_its_value() {
+    assert_eq!(starred(place_before_value()).answer, abort(1, 4));
 }
 
 #[test]
 fn blocks_of_an_aborted_command_stay() {
-    let mut routine = Routine::default();
-    let block = routine.malloc(1);
-    let block = routine.cast(block, POINTER);
-    let one = routine.number(1);
-    let past = routine.node(5, block, one);
-    let place = routine.deref(past);
-    let zero = routine.number(0);
-    routine.assign(place, zero);
-    assert_eq!(routine.run().answer, abort(0, 3));
+    assert_eq!(starred(block_of_an_aborted_command()).answer, abort(0, 3));
 }
 
 /// "Routine A's record type over a block of two words: the snapshot passes,

@@ -6,20 +6,19 @@
 mod aborts;
 mod by_words;
 mod copied;
+mod counts;
 mod plain;
 mod plain_run;
 mod sums;
 
 use by_words::by_words;
+use counts::{answer, answer_to, count, more_than, Counts};
+use plain_run::{call, RIGHT};
 use second::generate;
-use second::text::{Answerer, Call, Case};
-use std::collections::BTreeMap;
+use second::text::{Call, Case};
 use sums::BY_RECORDS;
 
 const COUNT: u64 = 10_000;
-
-/// How many cases there are of each name.
-type Counts = BTreeMap<String, u32>;
 
 #[derive(Default)]
 struct Spread {
@@ -33,16 +32,6 @@ struct Spread {
     explanations: Counts,
     /// What the copies of begun runs are like, and refusals of copies.
     copies: Counts,
-}
-
-fn count(counts: &mut Counts, name: impl ToString) {
-    *counts.entry(name.to_string()).or_default() += 1;
-}
-
-fn answer(line: &[u8]) -> String {
-    let mut answer = Vec::new();
-    Answerer::default().answer(line, &mut answer);
-    String::from_utf8_lossy(&answer).into_owned()
 }
 
 fn spread() -> Spread {
@@ -95,7 +84,7 @@ impl Spread {
     }
 
     fn copies_of(&mut self, case: &Case) {
-        let names = copied::names(case);
+        let names = copied::names(case, &call(case, &RIGHT));
         names.iter().for_each(|name| count(&mut self.copies, name));
     }
 
@@ -111,26 +100,13 @@ impl Spread {
         let answer = answer_to(case);
         let ending = answer.split(' ').next().expect("a word");
         count(&mut self.steps, ending);
-        if by_words(case).is_some_and(|line| self::answer(&line) != answer) {
+        if by_words(case).is_some_and(|line| counts::answer(&line) != answer) {
             count(&mut self.steps, format!("telling {ending}"));
         }
         // Only in a run that is done each sum is worked out.
         if ending == "done" {
             names.iter().for_each(|name| count(&mut self.steps, name));
         }
-    }
-}
-
-fn answer_to(case: &Case) -> String {
-    let mut line = Vec::new();
-    case.write(&mut line);
-    answer(line.strip_suffix(b"\n").expect("a line"))
-}
-
-fn more_than(counts: &Counts, least: &[(&str, u32)]) {
-    for &(name, least) in least {
-        let found = counts.get(name).copied().unwrap_or(0);
-        assert!(found > least, "{name}: {found}");
     }
 }
 
@@ -151,7 +127,7 @@ fn cases_get_everywhere() {
 
 /// Each number of a refusal comes often, and no other: 12 is not used.
 fn refusals_are_given(answers: &Counts) {
-    let numbers: Vec<u32> = (1..=11).chain(13..=15).collect();
+    let numbers: Vec<u32> = (1..=11).chain(13..=16).collect();
     for number in &numbers {
         more_than(answers, &[(&format!("refused {number}"), 60)]);
     }

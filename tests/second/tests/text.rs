@@ -15,6 +15,9 @@ fn endings() {
     assert_eq!(answer("1 0 1 1 1 0 0 1 0 6 0 0 0 0 0 0"), "pass");
     assert_eq!(answer("0 0 0 0 0 0 0 1 0 6 0 0 0 0 0 0"), "refused 10 0");
     assert_eq!(answer("1 0 0 0 0 0 0 1 0 1 33"), "refused 3 0");
+    assert_eq!(answer("1 0 0 0 0 0 0 1 0 1 4294967295"), "refused 1 1");
+    assert_eq!(answer("1 0 0 0 0 0 0 0 2 4294967295 3"), "refused 16 1");
+    assert_eq!(answer("1 0 0 0 0 0 0 0 8 4294967295 2 0 0 0 0 0 0"), "pass");
     let m = "0 0 L L L 0 1 0 1 0 22 0 0 1 0 1 2 4 1 0 0 4 2 0 10 1 0 8 2 2 1 0 3";
     assert_eq!(answer(&m.replace('L', "5")), "done 4 ; 2:2:4 0:0:0 0:0:0");
     assert_eq!(answer(&m.replace('L', "3")), "noroom 0 2 ; 0:0:0");

@@ -43,11 +43,21 @@ fn agree(folder: &Path, name: &str, change: fn(&[u8]) -> Option<Vec<u8>>) {
     assert!(compared * 100 >= cases.len() * 95);
 }
 
+/// Cases recorded before there was a mark are answered as they were with one
+/// less for it as the first word: both are counts above their maximum.
+fn before_marks(line: &[u8]) -> Case {
+    let mut case = Case::default();
+    case.read(line).expect("a case");
+    if let Some(first) = case.table.first_mut() {
+        *first = (*first).min(u32::MAX - 1);
+    }
+    case
+}
+
 /// Cases recorded before there were copies are answered as they were with kind
 /// 99 for kind 11: the one was unknown then, and the other still is.
 fn before_copies(line: &[u8]) -> Case {
-    let mut case = Case::default();
-    case.read(line).expect("a case");
+    let mut case = before_marks(line);
     for node in nodes(&mut case.table).chunks_mut(3) {
         if node[0] == 11 {
             node[0] = 99;
@@ -84,9 +94,16 @@ fn line_of(case: &Case) -> Vec<u8> {
 }
 
 #[test]
+fn cases_with_editions_agree() {
+    if let Some(folder) = folder() {
+        agree(&folder, "cr8", |line| Some(line.to_vec()));
+    }
+}
+
+#[test]
 fn cases_with_copies_agree() {
     if let Some(folder) = folder() {
-        agree(&folder, "cr6", |line| Some(line.to_vec()));
+        agree(&folder, "cr6", |line| Some(line_of(&before_marks(line))));
     }
 }
 

@@ -173,12 +173,15 @@ impl Expressions<'_> {
         self.led_to(known, goal, record.typ)
     }
 
-    /// A known value led to a word, as a pointer of type `typ`: by words, or by
+    /// A known value led to a word, as a value of type `typ`: by words, or by
     /// records where whole ones lead there.
     pub(super) fn led_to(&mut self, known: Known, goal: u32, typ: u32) -> u32 {
         let way = goal.wrapping_sub(known.at);
         if way == 0 && self.random.percent(70) {
             return self.cast_from(known.typ, known.node, typ);
+        }
+        if self.routine.marked && self.random.percent(25) {
+            return self.led_from_the_left(known, goal, typ);
         }
         let any = self.any_pointer_type();
         let stepping = self.random.pick(&[typ, known.typ, any]);
@@ -208,7 +211,7 @@ impl Expressions<'_> {
         };
         let mut children = [first, second].map(|typ| self.value(typ));
         let at = self.random.index(2);
-        match self.random.weighted(&[70, 15, 15]) {
+        match self.random.weighted(&[62, 22, 16]) {
             0 => {}
             1 => {
                 let own = self.ordinary_place([first, second][at]);

@@ -23,7 +23,7 @@ impl Expressions<'_> {
     }
 
     /// A copy whose result is assigned, alone or in a sum.
-    fn copy_command(&mut self) -> Option<[u32; 2]> {
+    pub(super) fn copy_command(&mut self) -> Option<[u32; 2]> {
         let place = self.ordinary_place(INT)?;
         let copy = self.copy()?;
         if self.random.percent(80) {

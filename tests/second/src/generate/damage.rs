@@ -2,7 +2,9 @@
 //! together with another, which tells the order in which they are looked for.
 
 mod list;
+mod mark;
 
+use super::edition;
 use super::random::Random;
 use super::types::RECORD;
 use crate::machine::kind;
@@ -19,7 +21,7 @@ const MAXIMA: [u32; 6] = [32, 128, 64, 64, 512, 256];
 
 impl Sections {
     fn of(table: &[u32]) -> Sections {
-        let mut at = 0;
+        let mut at = edition::sections_at(table);
         let mut sections = Sections {
             starts: [0; 6],
             counts: [0; 6],
@@ -72,6 +74,15 @@ pub fn damage(random: &mut Random, case: &mut Case) {
     if cut {
         lengths(random, case, &sections);
     }
+}
+
+/// Damages the mark of a good table or gives it one, half of the time after
+/// other damage.
+pub fn mark(random: &mut Random, case: &mut Case) {
+    if random.percent(50) {
+        damage(random, case);
+    }
+    mark::damage(random, &mut case.table);
 }
 
 /// Damages the registers of a good case, and now and then the call's other

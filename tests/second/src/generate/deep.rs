@@ -16,7 +16,7 @@ pub fn routine(random: &mut Random) -> Routine {
         variables: vec![POINTER, INT, VOID_POINTER, ROW],
     };
     let room = random.below(37);
-    let routine = Routine::new(random, types, room);
+    let routine = Routine::new(random, types, room, 33);
     let goal = random.pick(&[40, 100, 300, 480, 505]);
     let mut deep = Deep { routine, random };
     if !deep.has_register() || deep.random.percent(30) {
@@ -123,6 +123,10 @@ impl Deep<'_> {
                 (self.node(kind::SUM, a, value), INT)
             }
             _ if style == 1 => (self.node(kind::MALLOC, value, 0), VOID_POINTER),
+            // It may have bounds.
+            _ if self.routine.marked && self.random.percent(60) => {
+                self.cast(value, &[VOID_POINTER, POINTER, ROW])
+            }
             // Off to where the block is: the number becomes an offset.
             _ => {
                 let a = self.read(0);
@@ -133,7 +137,8 @@ impl Deep<'_> {
 
     fn around_pointer(&mut self, value: u32, style: u32) -> (u32, u32) {
         let to_int = if style == 2 { 1 } else { 8 };
-        match self.random.weighted(&[25, 25, 20, to_int, 3]) {
+        let made_int = if self.routine.marked { 15 } else { 3 };
+        match self.random.weighted(&[25, 25, 20, to_int, made_int]) {
             0 => {
                 let place = self.node(kind::DEREF, value, 0);
                 (self.node(kind::ADDRESS, place, 0), POINTER)

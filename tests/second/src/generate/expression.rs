@@ -1,7 +1,7 @@
 //! Random places and values of a wanted type.
 
 use super::random::Random;
-use super::routine::{Routine, Wanted};
+use super::routine::{About, Routine, Wanted};
 use super::types::{INT, RECORD, VOID_POINTER};
 use crate::machine::{kind, Reason};
 
@@ -31,10 +31,15 @@ impl<'r> Expressions<'r> {
 
     /// A command, or none where there is no place at all to assign to.
     pub fn command(&mut self) -> Option<[u32; 2]> {
-        let copying = if self.routine.copying { 85 } else { 4 };
+        let [copying, carrying] = match self.routine.about {
+            About::Anything => [4, 2],
+            About::Copies => [85, 2],
+            About::Ints => [2, 80],
+        };
         let nodes = self.routine.nodes.len();
         let special = match self.led_astray() {
             _ if self.random.percent(copying) => self.copying(),
+            _ if self.random.percent(carrying) => self.carrying(),
             Some(reason) if self.random.percent(45) => self.stray_command(reason),
             _ if self.random.percent(20) => self.walk(),
             _ => None,
@@ -148,7 +153,8 @@ impl<'r> Expressions<'r> {
             let word = self.random.number();
             return self.constant(word);
         }
-        match self.random.weighted(&[35, 6, 16, 25, 14, 4, 14]) {
+        let carried = if self.routine.marked { 40 } else { 0 };
+        match self.random.weighted(&[35, 6, 16, 25, 14, 4, 14, carried]) {
             0 => {
                 let word = self.random.number();
                 self.constant(word)
@@ -168,7 +174,8 @@ impl<'r> Expressions<'r> {
                 let a = self.int();
                 self.node(kind::CAST, a, INT)
             }
-            _ => self.copy().unwrap_or_else(|| self.size()),
+            6 => self.copy().unwrap_or_else(|| self.size()),
+            _ => self.carried(),
         }
     }
 
@@ -266,7 +273,10 @@ impl<'r> Expressions<'r> {
         let room = self.routine.length.saturating_sub(self.routine.unused);
         let greedy = if self.wanted == Wanted::NoRoom { 30 } else { 2 };
         let step = self.routine.types.step(typ);
-        let most = if self.routine.copying { room } else { 20 };
+        let most = match self.routine.about {
+            About::Copies => room,
+            About::Anything | About::Ints => 20,
+        };
         let row = if (2..=most).contains(&step) { 90 } else { 0 };
         let weights = [8, 45, 20, 6, greedy, row, greedy / 2];
         match self.random.weighted(&weights) {

@@ -1,7 +1,8 @@
-//! Pointers of all origins, each with its word and its bounds foreseen.
+//! Pointers of all origins, and in edition 2 ints too, each with its word and
+//! its bounds foreseen.
 
 use super::expression::Expressions;
-use super::types::{Way, INT, VOID_POINTER};
+use super::types::{Way, VOID_POINTER};
 use crate::machine::kind;
 
 /// A value whose word and bounds are foreseen from what the memory holds.
@@ -15,21 +16,23 @@ pub(super) struct Known {
 
 impl Expressions<'_> {
     pub(super) fn known(&mut self) -> Known {
-        let known = match self.random.weighted(&[28, 20, 28, 11, 13]) {
+        let sums = if self.routine.marked { 25 } else { 0 };
+        let known = match self.random.weighted(&[28, 20, 28, 11, 13, sums]) {
             0 => self.of_variable(),
             1 => self.address_of_variable(),
             2 => self.address_of_field(),
             3 => self.fetched(),
-            _ => None,
+            4 => None,
+            _ => self.summed(),
         };
         known.unwrap_or_else(|| self.new_block())
     }
 
-    /// Pointer variables with bounds, each with its word: value, base and end.
+    /// Variables with bounds, each with its word: value, base and end.
     pub(super) fn bounded(&self) -> Vec<(u32, [u32; 3])> {
         let variables = (0..).zip(&self.routine.types.variables);
-        let pointers = variables.filter(|&(_, &typ)| typ != INT);
-        let words = pointers.map(|(variable, _)| (variable, self.word(1 + variable)));
+        let bounded = variables.filter(|&(_, &typ)| self.routine.has_bounds(typ));
+        let words = bounded.map(|(variable, _)| (variable, self.word(1 + variable)));
         words.filter(|&(_, [.., end])| end != 0).collect()
     }
 
@@ -104,7 +107,7 @@ impl Expressions<'_> {
 
     /// Variables and fields that are in the bounds of what they point to, each
     /// with the field's place.
-    fn fields_within(&self) -> Vec<(u32, u32, Way)> {
+    pub(super) fn fields_within(&self) -> Vec<(u32, u32, Way)> {
         let types = &self.routine.types;
         let bounded = self.bounded();
         let mut found = Vec::new();
@@ -136,7 +139,7 @@ impl Expressions<'_> {
         }
     }
 
-    /// A pointer that stands in a block, read by way of a variable.
+    /// A value that stands in a block, read by way of a variable.
     pub(super) fn fetched(&mut self) -> Option<Known> {
         let held = self.held();
         if held.is_empty() {
@@ -156,11 +159,11 @@ impl Expressions<'_> {
         found
     }
 
-    /// The pointer in word `w`, which is in this variable's bounds.
+    /// The value in word `w`, which is in this variable's bounds.
     pub(super) fn fetch(&mut self, variable: u32, w: u32) -> Option<Known> {
         let types = &self.routine.types;
-        let pointers = 1..types.count();
-        let ways = pointers.filter_map(|typ| Some([typ, types.pointer_to(typ)?]));
+        let bounded = (0..types.count()).filter(|&typ| self.routine.has_bounds(typ));
+        let ways = bounded.filter_map(|typ| Some([typ, types.pointer_to(typ)?]));
         let ways: Vec<[u32; 2]> = ways.collect();
         if ways.is_empty() {
             return None;

@@ -5,7 +5,7 @@ use super::types::{INT, RECORD};
 use crate::machine::kind;
 
 impl Expressions<'_> {
-    /// A read of a pointer variable, cast to `typ` where it has another type.
+    /// A read of a variable, cast to `typ` where it has another type.
     /// Those that have bounds are taken first.
     pub(super) fn variable_with_bounds(&mut self, typ: u32) -> u32 {
         match self.bounded_variable(typ) {
@@ -18,15 +18,15 @@ impl Expressions<'_> {
         let routine = &self.routine;
         let types = &routine.types.variables;
         let bounded = |&n: &u32| routine.memory[2][1 + n as usize] != 0;
-        let pointers = (0..types.len() as u32).filter(|&n| types[n as usize] != INT);
-        let mut good: Vec<u32> = pointers.clone().filter(bounded).collect();
+        let all = (0..types.len() as u32).filter(|&n| routine.has_bounds(types[n as usize]));
+        let mut good: Vec<u32> = all.clone().filter(bounded).collect();
         if self.random.percent(70) {
             let same = |&n: &u32| types[n as usize] == typ;
             let of_type: Vec<u32> = good.iter().copied().filter(same).collect();
             good = if of_type.is_empty() { good } else { of_type };
         }
         if good.is_empty() || self.random.percent(5) {
-            good = pointers.collect();
+            good = all.collect();
         }
         (!good.is_empty()).then(|| self.random.pick(&good))
     }

@@ -5,10 +5,11 @@
 //! after several commands and not at the first; a wrong trial only makes for
 //! another mixture of cases, never for a wrong case.
 
+use super::edition;
 use super::expression::Expressions;
 use super::random::Random;
 use super::registers;
-use super::types::Types;
+use super::types::{Types, INT};
 use crate::machine::{self, kind, Answer, Reason};
 use crate::text::{Call, Case};
 
@@ -32,15 +33,25 @@ impl Wanted {
     }
 }
 
+/// What most commands of a routine have to do with.
+#[derive(Clone, Copy, PartialEq, Eq)]
+pub enum About {
+    Anything,
+    Copies,
+    /// Ints that have bounds.
+    Ints,
+}
+
 pub struct Routine {
+    /// Whether it is of edition 2.
+    pub marked: bool,
     pub types: Types,
     pub nodes: Vec<[u32; 3]>,
     pub commands: Vec<[u32; 2]>,
     pub inputs: Vec<u32>,
     pub registers: Vec<u32>,
     pub length: u32,
-    /// Whether most commands shall have to do with copies.
-    pub copying: bool,
+    pub about: About,
     /// Memory and U as the commands so far leave them.
     pub memory: [Vec<u32>; 3],
     pub unused: u32,
@@ -51,21 +62,23 @@ const MAX_NODES: usize = 512;
 const MAX_COMMANDS: usize = 256;
 
 impl Routine {
-    /// No commands yet, and `room` words beside the variables and registers.
-    pub fn new(random: &mut Random, types: Types, room: u32) -> Routine {
+    /// No commands yet, and `room` words beside the variables and registers. Of
+    /// a hundred, so many are of edition 2.
+    pub fn new(random: &mut Random, types: Types, room: u32, marked: u32) -> Routine {
         let inputs = types.variables.iter();
         let inputs = inputs.map(|&t| if t == 0 { random.number() } else { 0 });
         let inputs: Vec<u32> = inputs.collect();
         let registers = registers::list(random, &types);
         let length = registers::memory(inputs.len() as u32, &registers, room);
         let mut routine = Routine {
+            marked: random.percent(marked),
             inputs,
             registers,
             types,
             nodes: Vec::new(),
             commands: Vec::new(),
             length,
-            copying: false,
+            about: About::Anything,
             memory: [const { Vec::new() }; 3],
             unused: 0,
         };
@@ -85,7 +98,7 @@ impl Routine {
             2 => random.between(40, 300),
             _ => random.pick(&[1_000, 4_096, 60_000]),
         };
-        let mut routine = Routine::new(random, types, room);
+        let mut routine = Routine::new(random, types, room, 15);
         let commands = random.weighted(&[4, 6, 8, 10, 10, 10, 10, 9, 8, 7, 6, 5, 4, 3]);
         routine.grow(random, commands);
         routine.end(random);
@@ -98,8 +111,20 @@ impl Routine {
         let types = Types::copied(random);
         let record = types.size(0);
         let room = random.below(4 * record) + random.below(24);
-        let mut routine = Routine::new(random, types, room);
-        routine.copying = true;
+        let mut routine = Routine::new(random, types, room, 15);
+        routine.about = About::Copies;
+        let commands = random.between(2, 16) as usize;
+        routine.grow(random, commands);
+        routine.end(random);
+        routine
+    }
+
+    /// A routine that keeps ints with bounds, adds them up, and follows them.
+    pub fn carrying(random: &mut Random) -> Routine {
+        let types = Types::carrying(random);
+        let room = random.between(2, 40);
+        let mut routine = Routine::new(random, types, room, 80);
+        routine.about = About::Ints;
         let commands = random.between(2, 16) as usize;
         routine.grow(random, commands);
         routine.end(random);
@@ -199,6 +224,11 @@ impl Routine {
         explanation.map_or(wanted, |told| Wanted::Abort(told.reason))
     }
 
+    /// Whether values of a type may have bounds.
+    pub fn has_bounds(&self, typ: u32) -> bool {
+        typ != INT || self.marked
+    }
+
     /// The table of the routine.
     pub fn table(&self) -> Vec<u32> {
         let mut table = Vec::new();
@@ -215,6 +245,9 @@ impl Routine {
         table.extend(self.nodes.iter().flatten());
         table.push(self.commands.len() as u32);
         table.extend(self.commands.iter().flatten());
+        if self.marked {
+            edition::mark(&mut table);
+        }
         table
     }
 

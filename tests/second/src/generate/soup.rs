@@ -1,5 +1,6 @@
 //! Tables made with little or no regard for the check.
 
+use super::edition;
 use super::random::Random;
 use super::registers;
 use crate::machine::kind;
@@ -53,7 +54,10 @@ pub fn sections(random: &mut Random) -> Case {
     case(random, table)
 }
 
-fn case(random: &mut Random, table: Vec<u32>) -> Case {
+fn case(random: &mut Random, mut table: Vec<u32>) -> Case {
+    if random.percent(30) {
+        edition::mark(&mut table);
+    }
     let length = random.below(20);
     let inputs = (0..random.below(4)).map(|_| random.pick(&[0, 0, 0, 5]));
     Case {

@@ -97,8 +97,12 @@ impl Expressions<'_> {
     }
 
     /// A value that is this number: a constant, or now and then a sum, which
-    /// may have a copy in it.
+    /// may have a copy in it or have bounds.
     fn number(&mut self, number: u32) -> u32 {
+        if self.routine.marked && self.left > 0 && self.random.percent(15) {
+            self.left -= 1;
+            return self.carried_number(number);
+        }
         if !self.random.percent(15) {
             return self.constant(number);
         }

@@ -89,6 +89,13 @@ impl Types {
         made
     }
 
+    /// The same with more ints to keep bounds in.
+    pub fn carrying(random: &mut Random) -> Types {
+        let mut made = Types::copied(random);
+        made.variables.extend([INT, INT]);
+        made
+    }
+
     /// As many as the limits allow, or nearly.
     pub fn large(random: &mut Random) -> Types {
         let mut near = |limit: u32| match random.below(3) {
@@ -98,6 +105,16 @@ impl Types {
         let counts = [near(32), near(64), near(64)];
         let fields = (128 / counts[0].max(1)) as u32;
         Types::with(random, counts, fields.max(1))
+    }
+
+    /// As many as the limits allow, with an int to assign to.
+    pub fn full(random: &mut Random) -> Types {
+        let mut made = Types::with(random, [32, 64, 64], 4);
+        for fields in &mut made.records {
+            fields.resize(4, [INT, 1]);
+        }
+        made.variables[0] = INT;
+        made
     }
 
     fn with(random: &mut Random, counts: [usize; 3], most_fields: u32) -> Types {

@@ -177,7 +177,7 @@ fn records(layout: &Layout) -> Result<(), Refusal> {
     let mut sum = 0u64;
     for (i, &fields) in layout.records.iter().enumerate() {
         if fields == 0 {
-            return Err(Refusal::new(4, 1 + i));
+            return Err(Refusal::new(4, layout.records_at() + 1 + i));
         }
         sum += u64::from(fields);
     }

@@ -5,9 +5,11 @@
 //! The bounds that go with the latest value or place stand in `base` and
 //! `end`: most nodes pass them on untouched.
 //!
-//! Bounds of an int are never looked at: an int store leaves bounds alone, and
-//! the one way from an int to a pointer is a cast, which drops them. So they
-//! are dropped there only, and no read or constant has to.
+//! In edition 1, bounds of an int are never looked at: an int store leaves
+//! bounds alone, and the one way from an int to a pointer is a cast, which
+//! drops them. So they are dropped there only, and no read or constant has to.
+//! In edition 2 an int has bounds like any other value: a cast drops nothing,
+//! and what has no bounds must say so. `MARKED` tells the editions apart.
 
 use super::declarations::Declarations;
 use super::explain::Watch;
@@ -20,7 +22,7 @@ enum Stop {
     NoRoom,
 }
 
-pub struct Memory<'m, W> {
+pub struct Memory<'m, W, const MARKED: bool> {
     nodes: &'m [[u32; 3]],
     notes: &'m [u8; MAX_NODES],
     layout: &'m Layout<'m>,
@@ -38,15 +40,13 @@ pub struct Memory<'m, W> {
     watch: W,
 }
 
-impl<'m, W: Watch> Memory<'m, W> {
+impl<'m, W: Watch, const MARKED: bool> Memory<'m, W, MARKED> {
     pub fn new(
         checked: &'m Checked,
-        values: &'m mut [u32],
-        bases: &'m mut [u32],
-        ends: &'m mut [u32],
+        [values, bases, ends]: [&'m mut [u32]; 3],
         unused: u32,
         watch: W,
-    ) -> Memory<'m, W> {
+    ) -> Memory<'m, W, MARKED> {
         Memory {
             nodes: checked.layout.nodes,
             notes: checked.notes,
@@ -80,13 +80,14 @@ impl<'m, W: Watch> Memory<'m, W> {
 
     /// "A command's place before its value": the place's check is not made
     /// again after the value. "A pointer type stores value, base and end; int
-    /// stores the value only, and the word's base and end stay."
+    /// stores the value only, and the word's base and end stay." In edition 2
+    /// "every assignment moves value, base and end".
     #[inline(always)]
     fn assign(&mut self, place: u32, node: u32) -> Option<()> {
         let w = self.word(place)?;
         let value = self.value(node)?;
         self.values[w] = value;
-        if self.notes[node as usize] != INT {
+        if MARKED || self.notes[node as usize] != INT {
             self.bases[w] = self.base;
             self.ends[w] = self.end;
         }
@@ -154,12 +155,15 @@ impl<'m, W: Watch> Memory<'m, W> {
     fn value(&mut self, node: u32) -> Option<u32> {
         let [kind, a, b] = self.nodes[node as usize];
         match kind {
-            kind::CONSTANT => Some(a),
+            kind::CONSTANT => self.number(a),
             kind::SUM => self.sum(a, b),
             kind::READ => self.read(a),
             kind::ADDRESS => self.place(a),
             kind::CAST => self.cast(a),
-            kind::SIZE => self.declarations.size(self.layout, a),
+            kind::SIZE => {
+                let words = self.declarations.size(self.layout, a)?;
+                self.number(words)
+            }
             kind::MALLOC => {
                 let words = self.value(a)?;
                 self.malloc(words)
@@ -168,9 +172,19 @@ impl<'m, W: Watch> Memory<'m, W> {
         }
     }
 
+    /// A number without bounds.
+    #[inline(always)]
+    fn number(&mut self, number: u32) -> Option<u32> {
+        if MARKED {
+            (self.base, self.end) = (0, 0);
+        }
+        Some(number)
+    }
+
     /// The sum has the bounds of its first part, whose type tells how long a
     /// step is. All the steps together are taken modulo 2^32 too, so that a
-    /// number near 2^32 leads back.
+    /// number near 2^32 leads back. A constant has no bounds that could be
+    /// taken in place of none.
     #[inline(always)]
     fn sum(&mut self, a: u32, b: u32) -> Option<u32> {
         let left = self.value(a)?;
@@ -182,13 +196,16 @@ impl<'m, W: Watch> Memory<'m, W> {
         }
     }
 
-    /// The same for a right part that isn't a constant. Apart, so that not
-    /// every call of `value` has to save what this one keeps.
+    /// The same for a right part that isn't a constant. "A sum takes the left
+    /// bounds if the left end isn't 0, else the right ones", in edition 2.
+    /// Apart, so that not every call of `value` has to save what this one keeps.
     #[inline(never)]
     fn sum_of(&mut self, left: u32, step: u32, b: u32) -> Option<u32> {
         let bounds = (self.base, self.end);
         let right = self.value(b)?;
-        (self.base, self.end) = bounds;
+        if !MARKED || bounds.1 != 0 {
+            (self.base, self.end) = bounds;
+        }
         Some(left.wrapping_add(right.wrapping_mul(step)))
     }
 
@@ -200,11 +217,12 @@ impl<'m, W: Watch> Memory<'m, W> {
     }
 
     /// "Pointer to pointer keeps everything; from int, or to int, the value is
-    /// kept without bounds." To int, nobody looks at them.
+    /// kept without bounds." To int, nobody looks at them. In edition 2 "a cast
+    /// changes nothing".
     #[inline(always)]
     fn cast(&mut self, a: u32) -> Option<u32> {
         let v = self.value(a)?;
-        if self.notes[a as usize] == INT {
+        if !MARKED && self.notes[a as usize] == INT {
             (self.base, self.end) = (0, 0);
         }
         Some(v)
@@ -243,7 +261,7 @@ impl<'m, W: Watch> Memory<'m, W> {
         (self.base, self.end) = bounds_of_from;
         self.record(node, from, words)?;
         self.move_words(from as usize, to as usize, words as usize);
-        Some(words)
+        self.number(words)
     }
 
     /// The check for a whole record at `v`, in exact sums as for a field.

@@ -9,8 +9,15 @@ pub const MAX_VARIABLES: usize = 64;
 pub const MAX_NODES: usize = 512;
 pub const MAX_COMMANDS: usize = 256;
 
+/// The first word of a table of edition 2; the edition follows it.
+const MARK: u32 = u32::MAX;
+const EDITION: u32 = 2;
+
 /// The words of each section, without its count.
 pub struct Layout<'t> {
+    /// Whether the table is of edition 2: the sections come after the mark and
+    /// its edition.
+    pub marked: bool,
     pub records: &'t [u32],
     /// A type and a count of words each.
     pub fields: &'t [[u32; 2]],
@@ -26,8 +33,11 @@ impl<'t> Layout<'t> {
     /// "The sections in turn, each its count (1, then 3) and then its extent
     /// (1); then 2": nothing of the contents is looked at before all of this.
     pub fn of(table: &'t [u32]) -> Result<Layout<'t>, Refusal> {
-        let mut rest = Rest { table, at: 0 };
+        let marked = marked(table)?;
+        let at = sections_at(marked);
+        let mut rest = Rest { table, at };
         let layout = Layout {
+            marked,
             records: rest.section::<1>(MAX_RECORDS)?.as_flattened(),
             fields: rest.section::<2>(MAX_FIELDS)?,
             pointers: rest.section::<1>(MAX_POINTERS)?.as_flattened(),
@@ -44,8 +54,12 @@ impl<'t> Layout<'t> {
     // Places of the sections' counts. Only a refusal needs them, so they are
     // told from the lengths then and kept nowhere.
 
+    pub fn records_at(&self) -> usize {
+        sections_at(self.marked)
+    }
+
     pub fn fields_at(&self) -> usize {
-        1 + self.records.len()
+        self.records_at() + 1 + self.records.len()
     }
 
     pub fn pointers_at(&self) -> usize {
@@ -62,6 +76,26 @@ impl<'t> Layout<'t> {
 
     pub fn commands_at(&self) -> usize {
         self.nodes_at() + 1 + 3 * self.nodes.len()
+    }
+}
+
+/// "16 when another edition follows the mark, place 1, before all others; 1 at
+/// place 1 if the table ends with the mark".
+#[inline(always)]
+fn marked(table: &[u32]) -> Result<bool, Refusal> {
+    match table {
+        [MARK] => Err(Refusal::new(1, 1)),
+        [MARK, EDITION, ..] => Ok(true),
+        [MARK, ..] => Err(Refusal::new(16, 1)),
+        _ => Ok(false),
+    }
+}
+
+/// "Places count the mark and the 2".
+fn sections_at(marked: bool) -> usize {
+    match marked {
+        true => 2,
+        false => 0,
     }
 }
 

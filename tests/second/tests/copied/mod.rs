@@ -3,7 +3,7 @@
 
 use crate::aborts::parent;
 use crate::plain::Table;
-use crate::plain_run::{as_they_were, call, Called, Cell, Copy, Copying, Event};
+use crate::plain_run::{as_they_were, call, Called, Cell, Copy, Copying, Event, Rules, RIGHT};
 use second::machine::kind;
 use second::text::{Call, Case};
 use std::collections::BTreeSet;
@@ -11,9 +11,8 @@ use std::collections::BTreeSet;
 type Names = BTreeSet<&'static str>;
 
 /// Names for the copies of a case.
-pub fn names(case: &Case) -> Names {
+pub fn names(case: &Case, right: &Called) -> Names {
     let table = Table::check(&case.table).expect("a begun run");
-    let right = call(case, as_they_were);
     let mut names = Names::new();
     for event in &right.events {
         if let Event::Copy(copy) = event {
@@ -22,7 +21,7 @@ pub fn names(case: &Case) -> Names {
     }
     if names.contains("completed") {
         names.extend(onto_its_way(&right.events));
-        names.extend(told_apart(case, &right));
+        names.extend(told_apart(case, right));
     }
     names
 }
@@ -176,8 +175,8 @@ fn position(table: &Table, node: u32) -> Names {
     names
 }
 
-/// Whether a copy in a command's value changes a pointer that was read on the
-/// way to the command's place.
+/// Whether a copy in a command's value changes what was read, with bounds, on
+/// the way to the command's place.
 fn onto_its_way(events: &[Event]) -> Option<&'static str> {
     let mut way = Vec::new();
     let mut placed = false;
@@ -185,7 +184,7 @@ fn onto_its_way(events: &[Event]) -> Option<&'static str> {
         match event {
             Event::Command => (placed, way) = (false, Vec::new()),
             Event::Placed => placed = true,
-            Event::Read(word) if !placed => way.push(*word),
+            Event::Read(_, word) if !placed => way.push(*word),
             Event::Copy(copy) if placed && way.iter().any(|w| copy.changed.contains(w)) => {
                 return Some("onto a pointer that led to the place");
             }
@@ -205,8 +204,9 @@ fn told_apart(case: &Case, right: &Called) -> Names {
     ];
     let mut names = Names::new();
     for (name, copying) in wrong {
-        let other = call(case, copying);
-        let ending = other.answer != right.answer || other.told != right.told;
+        let rules = Rules { copying, ..RIGHT };
+        let other = call(case, &rules);
+        let ending = other.ends_apart(right);
         if ending || other.cells != right.cells {
             names.insert(name);
         }

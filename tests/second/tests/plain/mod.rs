@@ -1,4 +1,4 @@
-//! The table and its check, as plainly as document 01 says them.
+//! The table and its check, as plainly as document 01 and the requests say them.
 
 use second::machine::Refusal;
 
@@ -18,6 +18,8 @@ use Class::{Place, Value};
 /// The sections and where they begin, and of each node class and type.
 pub struct Table<'t> {
     pub words: &'t [u32],
+    /// Whether it is of edition 2.
+    pub marked: bool,
     pub counts: [usize; 6],
     /// Place of the first word of each section's entries.
     starts: [usize; 6],
@@ -27,6 +29,8 @@ pub struct Table<'t> {
 
 const WIDTHS: [usize; 6] = [1, 2, 1, 1, 3, 2];
 const MAXIMA: [usize; 6] = [32, 128, 64, 64, 512, 256];
+/// The first word of a table of edition 2.
+const MARK: u32 = 4_294_967_295;
 
 impl Table<'_> {
     pub fn check(words: &[u32]) -> Found<Table<'_>> {
@@ -38,6 +42,7 @@ impl Table<'_> {
     pub fn read(words: &[u32]) -> (Table<'_>, Found<()>) {
         let mut table = Table {
             words,
+            marked: false,
             counts: [0; 6],
             starts: [0; 6],
             nodes: Vec::new(),
@@ -48,6 +53,7 @@ impl Table<'_> {
     }
 
     fn all(&mut self) -> Found<()> {
+        self.edition()?;
         self.sections()?;
         self.records()?;
         self.fields()?;
@@ -65,9 +71,21 @@ impl Table<'_> {
         }
     }
 
+    fn edition(&mut self) -> Found<()> {
+        self.marked = self.words.first() == Some(&MARK);
+        if self.marked {
+            match self.words.get(1) {
+                None => return refuse(1, 1),
+                Some(2) => {}
+                Some(_) => return refuse(16, 1),
+            }
+        }
+        Ok(())
+    }
+
     fn sections(&mut self) -> Found<()> {
         let length = self.words.len();
-        let mut at = 0;
+        let mut at = if self.marked { 2 } else { 0 };
         for section in 0..6 {
             if at >= length {
                 return refuse(1, length);

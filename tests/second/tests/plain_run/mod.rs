@@ -1,6 +1,6 @@
 //! The run, as plainly as document 01 and the requests say it. It tells what
-//! it meets on its way, and can copy wrongly on purpose: both tell what random
-//! cases are worth.
+//! it meets on its way, and can go about some steps wrongly on purpose: both
+//! tell what random cases are worth.
 
 use crate::plain::{refuse, Found, Table};
 use second::machine::{Answer, Explanation, Reason};
@@ -18,16 +18,88 @@ pub fn as_they_were(cells: &mut [Cell], from: usize, to: usize, words: usize) {
     cells[to..to + words].copy_from_slice(&taken);
 }
 
+/// The steps in which the editions differ.
+#[derive(Clone, Copy)]
+pub struct Steps {
+    /// What is read from a word, by a place of a type.
+    pub read: fn(u32, Cell) -> Cell,
+    /// What a word becomes, by a place of a type, when a value is assigned.
+    pub assign: fn(u32, Cell, Cell) -> Cell,
+    /// A value cast from a type to a type.
+    pub cast: fn([u32; 2], Cell) -> Cell,
+    /// Two values added. The left one has a type, and the right one counts
+    /// steps of so many words.
+    pub sum: fn(u32, Cell, Cell, u64) -> Cell,
+    /// What a node of a kind gives that tells a number. The value worked out
+    /// before it must not matter.
+    pub number: fn(u32, u64, Cell) -> Cell,
+}
+
+pub fn added(left: u64, right: u64, step: u64) -> u64 {
+    (left + right * step) % (1 << 32)
+}
+
+pub const EDITION_1: Steps = Steps {
+    read: |typ, [v, base, end]| match typ {
+        0 => [v, 0, 0],
+        _ => [v, base, end],
+    },
+    assign: |typ, [_, base, end], value| match typ {
+        0 => [value[0], base, end],
+        _ => value,
+    },
+    cast: |[from, to], [v, base, end]| match from == 0 || to == 0 {
+        true => [v, 0, 0],
+        false => [v, base, end],
+    },
+    sum: |_, [left, base, end], [right, ..], step| [added(left, right, step), base, end],
+    number: |_, number, _| [number, 0, 0],
+};
+
+pub const EDITION_2: Steps = Steps {
+    read: |_, cell| cell,
+    assign: |_, _, value| value,
+    cast: |_, cell| cell,
+    sum: |_, [left, base, end], [right, right_base, right_end], step| {
+        let sum = added(left, right, step);
+        match end != 0 {
+            true => [sum, base, end],
+            false => [sum, right_base, right_end],
+        }
+    },
+    number: EDITION_1.number,
+};
+
+/// How a run goes about what can be done wrongly.
+#[derive(Clone, Copy)]
+pub struct Rules {
+    pub copying: Copying,
+    /// The steps of tables without the mark, and of those with it.
+    pub steps: [Steps; 2],
+}
+
+pub const RIGHT: Rules = Rules {
+    copying: as_they_were,
+    steps: [EDITION_1, EDITION_2],
+};
+
 /// What a run meets on its way.
 #[allow(dead_code)] // Not every test that runs a case looks at all of it.
 pub enum Event {
     /// A command begins.
     Command,
-    /// A pointer is read from this word.
-    Read(usize),
+    /// A value with bounds is read from this word, by a place of a type.
+    Read(u32, usize),
     /// The place of a command is worked out.
     Placed,
     Copy(Copy),
+    /// Two values are added, as [`Steps::sum`] has them.
+    Sum(u32, Cell, Cell, u64),
+    /// A value is cast from a type to a type.
+    Cast([u32; 2], Cell),
+    /// So many words are asked for.
+    Obtain(Cell),
+    Assign(Assign),
 }
 
 /// A copy whose two pointers are known.
@@ -43,6 +115,16 @@ pub struct Copy {
     pub changed: Vec<usize>,
 }
 
+/// An assignment by a node that is a place of a type.
+#[allow(dead_code)]
+pub struct Assign {
+    pub node: usize,
+    pub typ: u32,
+    pub word: usize,
+    pub before: Cell,
+    pub value: Cell,
+}
+
 enum Stop {
     Abort(Explanation),
     NoRoom,
@@ -55,6 +137,9 @@ struct Run<'t> {
     owners: Vec<u32>,
     unused: u64,
     copying: Copying,
+    steps: Steps,
+    /// The value worked out last.
+    latest: Cell,
     events: Vec<Event>,
 }
 
@@ -114,40 +199,50 @@ impl Run<'_> {
 
     fn value(&mut self, node: usize) -> Result<Cell, Stop> {
         let [kind, a, b] = self.table.node(node);
-        let (_, typ) = self.table.nodes[node];
-        match kind {
-            4 => Ok([u64::from(a), 0, 0]),
-            5 => {
-                let [v, base, end] = self.value(a as usize)?;
-                let [n, ..] = self.value(b as usize)?;
-                let (_, left) = self.table.nodes[a as usize];
-                let words = n * self.table.step(left);
-                Ok([(v + words) % (1 << 32), base, end])
-            }
-            6 => {
-                let [w, ..] = self.place(a as usize)?;
-                let cell = self.cells[w as usize];
-                if typ == 0 {
-                    return Ok([cell[0], 0, 0]);
-                }
-                self.events.push(Event::Read(w as usize));
-                Ok(cell)
-            }
-            7 => self.place(a as usize),
+        let value = match kind {
+            4 => self.number(kind, u64::from(a)),
+            5 => self.sum(a as usize, b as usize)?,
+            6 => self.read(a as usize)?,
+            7 => self.place(a as usize)?,
             8 => {
                 let cell = self.value(a as usize)?;
                 let (_, from) = self.table.nodes[a as usize];
-                let plain = from == 0 || b == 0;
-                Ok(if plain { [cell[0], 0, 0] } else { cell })
+                self.events.push(Event::Cast([from, b], cell));
+                (self.steps.cast)([from, b], cell)
             }
-            9 if a < 65_536 => Ok([1, 0, 0]),
-            9 => Ok([self.table.size(a as usize - 65_536), 0, 0]),
+            9 if a < 65_536 => self.number(kind, 1),
+            9 => self.number(kind, self.table.size(a as usize - 65_536)),
             10 => {
-                let [n, ..] = self.value(a as usize)?;
-                self.malloc(n)
+                let words = self.value(a as usize)?;
+                self.malloc(words)?
             }
-            _ => self.copy(node, a as usize, b as usize),
+            _ => self.copy(node, a as usize, b as usize)?,
+        };
+        self.latest = value;
+        Ok(value)
+    }
+
+    fn number(&self, kind: u32, number: u64) -> Cell {
+        (self.steps.number)(kind, number, self.latest)
+    }
+
+    fn sum(&mut self, a: usize, b: usize) -> Result<Cell, Stop> {
+        let left = self.value(a)?;
+        let right = self.value(b)?;
+        let (_, typ) = self.table.nodes[a];
+        let step = self.table.step(typ);
+        self.events.push(Event::Sum(typ, left, right, step));
+        Ok((self.steps.sum)(typ, left, right, step))
+    }
+
+    fn read(&mut self, a: usize) -> Result<Cell, Stop> {
+        let [w, ..] = self.place(a)?;
+        let (_, typ) = self.table.nodes[a];
+        let cell = (self.steps.read)(typ, self.cells[w as usize]);
+        if cell[2] != 0 {
+            self.events.push(Event::Read(typ, w as usize));
         }
+        Ok(cell)
     }
 
     fn copy(&mut self, node: usize, a: usize, b: usize) -> Result<Cell, Stop> {
@@ -172,7 +267,7 @@ impl Run<'_> {
         }));
         let [a_passed, b_passed] = passed;
         a_passed.and(b_passed)?;
-        Ok([words, 0, 0])
+        Ok(self.number(11, words))
     }
 
     /// Copies, and tells which words are changed by it.
@@ -202,9 +297,11 @@ impl Run<'_> {
         };
     }
 
-    fn malloc(&mut self, n: u64) -> Result<Cell, Stop> {
+    fn malloc(&mut self, words: Cell) -> Result<Cell, Stop> {
+        self.events.push(Event::Obtain(words));
+        let [n, ..] = words;
         if n == 0 {
-            return Ok([0; 3]);
+            return Ok(self.number(10, 0));
         }
         if self.unused + n > self.cells.len() as u64 {
             return Err(Stop::NoRoom);
@@ -222,13 +319,19 @@ impl Run<'_> {
         self.events.push(Event::Command);
         let [w, ..] = self.place(place)?;
         self.events.push(Event::Placed);
-        let [v, base, end] = self.value(value)?;
+        let value = self.value(value)?;
         assert!(w > 0 && w < self.unused, "a write has a rule");
-        let cell = &mut self.cells[w as usize];
-        cell[0] = v;
-        if self.table.nodes[place].1 != 0 {
-            *cell = [v, base, end];
-        }
+        let (_, typ) = self.table.nodes[place];
+        let word = w as usize;
+        let before = self.cells[word];
+        self.cells[word] = (self.steps.assign)(typ, before, value);
+        self.events.push(Event::Assign(Assign {
+            node: place,
+            typ,
+            word,
+            before,
+            value,
+        }));
         Ok(())
     }
 
@@ -256,8 +359,16 @@ pub struct Called {
     pub events: Vec<Event>,
 }
 
-pub fn call(case: &Case, copying: Copying) -> Called {
-    match begun(case, copying) {
+#[allow(dead_code)] // Not every test that runs a case compares two.
+impl Called {
+    /// Whether two calls end otherwise, or for another reason.
+    pub fn ends_apart(&self, other: &Called) -> bool {
+        self.answer != other.answer || self.told != other.told
+    }
+}
+
+pub fn call(case: &Case, rules: &Rules) -> Called {
+    match begun(case, rules) {
         Ok(called) => called,
         Err(refusal) => Called {
             answer: Answer::Refused(refusal),
@@ -268,7 +379,7 @@ pub fn call(case: &Case, copying: Copying) -> Called {
     }
 }
 
-fn begun(case: &Case, copying: Copying) -> Found<Called> {
+fn begun(case: &Case, rules: &Rules) -> Found<Called> {
     let table = Table::check(&case.table)?;
     admit(case, &table)?;
     let registers = registers(&case.registers)?;
@@ -278,7 +389,9 @@ fn begun(case: &Case, copying: Copying) -> Found<Called> {
         cells: vec![[0; 3]; case.lengths[0] as usize],
         owners: (0..case.lengths[0]).collect(),
         unused: 1 + table.counts[3] as u64,
-        copying,
+        copying: rules.copying,
+        steps: rules.steps[usize::from(table.marked)],
+        latest: [0; 3],
         events: Vec::new(),
         table: &table,
     };

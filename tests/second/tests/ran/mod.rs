@@ -1,5 +1,7 @@
 //! Runs for examples written by hand.
 
+#![allow(dead_code)] // Not every test needs all endings.
+
 use second::machine::{run, Answer};
 
 /// A run on lists of `length` words, each lent with 7 in every word.
