@@ -178,13 +178,13 @@ fn take_times(quick: bool) -> Result<(), String> {
 }
 
 /// A line for each row and part: group, name, part, instructions, parted by
-/// tabs. A library from before there were copies has the one part `refused` in
-/// the rows with some.
+/// tabs. A library from before there were copies, or marks, has the one part
+/// `refused` in the rows with some, and there what it refuses.
 fn count_library() -> Result<(), String> {
     let plan = count_plan(false).ok_or("there is no valgrind to count with")?;
     let (refused, rows): (Vec<Row>, Vec<Row>) = rows::all(false)
         .into_iter()
-        .partition(verify::refuses_copies);
+        .partition(|row| verify::refused(row).is_some());
     verify::rows(&rows)?;
     for row in &rows {
         let costs = count::measure(Side::Library, row, &plan)?;
@@ -194,7 +194,8 @@ fn count_library() -> Result<(), String> {
         }
     }
     for row in &refused {
-        println!("{}\t{}\trefused\t0", row.group, row.name);
+        let what = verify::refused(row).unwrap_or_default();
+        println!("{}\t{}\trefused\t{what}", row.group, row.name);
     }
     Ok(())
 }

@@ -75,16 +75,20 @@ fn geometric_mean(ratios: &[f64]) -> f64 {
     mean(&logarithms).exp()
 }
 
+/// How many letters there is room for in the name of a row.
+const NAME: usize = 28;
+
 /// Heads of the table's columns.
 pub fn heading() -> String {
     let sides = "|   library    second  ratio ";
     let a_node = "|  library   second ";
     let first = format!(
-        "{:<18}{:>6} {:<8}| {:<48}| {:<18}| {:<27}| {:<18}",
+        "{:<NAME$}{:>6} {:<8}| {:<48}| {:<18}| {:<27}| {:<18}",
         "row", "nodes", "act", "ns a call", "ns a node", "instructions a call", "instr. a node"
     );
+    let before = NAME + 15;
     let second = format!(
-        "{:<33}{sides} in layouts   best  {a_node}{sides}{a_node}",
+        "{:<before$}{sides} in layouts   best  {a_node}{sides}{a_node}",
         ""
     );
     format!("{first}\n{second}\n{}", "-".repeat(second.len()))
@@ -100,7 +104,7 @@ pub fn text(line: &Line) -> String {
         None => "| not counted".into(),
     };
     format!(
-        "{:<18}{nodes:>6.0} {:<8}{} {range:<13}{:>5.2}  {}{instructions}",
+        "{:<NAME$}{nodes:>6.0} {:<8}{} {range:<13}{:>5.2}  {}{instructions}",
         row.name,
         part.name(),
         sides_text(line.ns, line.ratio),

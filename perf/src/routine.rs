@@ -6,6 +6,8 @@ pub const INT: u32 = 0;
 pub const VOID_POINTER: u32 = 1;
 /// A target or a size from this number on is a record.
 pub const RECORD: u32 = 65_536;
+/// The first word of a table of edition 2; the word 2 follows.
+pub const MARK: u32 = u32::MAX;
 
 /// The type of pointer entry `i`.
 pub const fn entry(i: u32) -> u32 {
@@ -27,6 +29,8 @@ pub struct Routine {
     pub commands: Vec<[u32; 2]>,
     /// How many words its copies copy in all.
     pub copied: u32,
+    /// Whether it is of edition 2.
+    pub marked: bool,
 }
 
 /// Nodes, by the scope's names. Each gives the new node's number.
@@ -147,10 +151,14 @@ impl Routine {
         list
     }
 
-    /// The six sections, each after its count.
+    /// The six sections, each after its count, and in edition 2 the mark before
+    /// them.
     pub fn table(&self) -> Vec<u32> {
         let fields: Vec<[u32; 2]> = self.records.iter().flatten().copied().collect();
-        let mut table = Vec::new();
+        let mut table = match self.marked {
+            true => vec![MARK, 2],
+            false => Vec::new(),
+        };
         section(
             &mut table,
             self.records.iter().map(|fields| [fields.len() as u32]),

@@ -39,6 +39,23 @@ pub struct Plan {
 const ABORT: &str = "abort";
 /// The group of rows with copies, and of those without to set them against.
 const COPIES: &str = "copies";
+/// The group of rows of edition 2.
+const EDITIONS: &str = "editions";
+
+/// Rows that are there in both editions.
+const IN_BOTH: [&str; 11] = [
+    "small",
+    "middle",
+    "large",
+    "deep casts",
+    "deep sums, left",
+    "deep sums, right",
+    "dereferences",
+    "pointer chain",
+    "records",
+    "registers 1 x 16",
+    "copies 80 x 16",
+];
 
 const QUICK: [&str; 8] = [
     "small",
@@ -64,6 +81,12 @@ pub fn named(name: &str) -> Option<Row> {
 }
 
 fn plans() -> Vec<Plan> {
+    let mut plans = of_edition_1();
+    plans.extend(editions(of_edition_1()));
+    plans
+}
+
+fn of_edition_1() -> Vec<Plan> {
     let mut plans = shapes();
     plans.extend(registers());
     plans.extend(records());
@@ -196,6 +219,24 @@ fn aborts() -> Vec<Plan> {
     ]
 }
 
+/// Rows of edition 1 once more, and two of what only edition 2 can do.
+fn editions(of_edition_1: Vec<Plan>) -> Vec<Plan> {
+    let in_both = |plan: &Plan| IN_BOTH.contains(&plan.name.as_str());
+    let plan = |name: &str, routine: fn() -> Routine| Plan {
+        group: EDITIONS,
+        name: name.into(),
+        memory: 16,
+        quick: true,
+        routines: Box::new(move || vec![routine()]),
+    };
+    let own = [
+        plan("ints in memory", workload::ints_in_memory),
+        plan("right bounds", workload::right_bounds),
+    ];
+    let again = of_edition_1.into_iter().filter(in_both);
+    again.chain(own).map(Plan::marked).collect()
+}
+
 impl Row {
     /// Whether the runs of the row abort; all others are done.
     pub fn aborts(&self) -> bool {
@@ -209,6 +250,21 @@ impl Row {
 }
 
 impl Plan {
+    /// The same routines in edition 2.
+    fn marked(self) -> Plan {
+        let marked = |routine| Routine {
+            marked: true,
+            ..routine
+        };
+        Plan {
+            name: format!("{}, edition 2", self.name),
+            quick: self.quick && (self.group == EDITIONS || self.name == "middle"),
+            group: EDITIONS,
+            memory: self.memory,
+            routines: Box::new(move || (self.routines)().into_iter().map(marked).collect()),
+        }
+    }
+
     fn build(self) -> Row {
         let routines = (self.routines)();
         let cases: Vec<Case> = routines.iter().map(Case::of).collect();

@@ -1,6 +1,7 @@
 //! Both sides must agree on every case before anything is measured.
 
 use crate::library::EXPLAINS;
+use crate::routine::MARK;
 use crate::rows::{Case, Row};
 use crate::side::{call, check, explain, Lists, Side, SIDES};
 use second::machine::kind;
@@ -19,13 +20,16 @@ pub fn rows(rows: &[Row]) -> Result<(), String> {
     Ok(())
 }
 
-/// Whether the library was built before there were copies: it refuses a table
-/// for the kind word of one.
-pub fn refuses_copies(row: &Row) -> bool {
-    row.cases.iter().any(|case| {
+/// What a library refuses a row's tables for that was built before there was
+/// such a thing: the kind word of a copy, or the mark of edition 2.
+pub fn refused(row: &Row) -> Option<&'static str> {
+    row.cases.iter().find_map(|case| {
         let verdict = check(Side::Library, case);
-        let at_fault = case.table.get(verdict.place);
-        verdict.number == 7 && at_fault == Some(&kind::COPY)
+        match (verdict.number, case.table.get(verdict.place)) {
+            (7, Some(&kind::COPY)) => Some("kind 11"),
+            (3, Some(&MARK)) => Some("edition 2"),
+            _ => None,
+        }
     })
 }
 

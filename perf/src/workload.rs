@@ -372,6 +372,54 @@ pub fn copies(block: u32, count: u32, words: u32) -> Routine {
     r
 }
 
+/// A block of eight words, `x = (int)p`, then `*(int*)x = x; x = *(int*)x`, 42
+/// times: in edition 2 each of these moves bounds.
+pub fn ints_in_memory() -> Routine {
+    let mut r = int_with_bounds();
+    for _ in 0..42 {
+        let place = by_int(&mut r, None);
+        let value = r.get(0);
+        r.assign(place, value);
+        let place = r.variable(0);
+        let from = by_int(&mut r, None);
+        let value = r.read(from);
+        r.assign(place, value);
+    }
+    r
+}
+
+/// The same block and int, then `*(int*)(n + x) = n`, 72 times: in edition 2
+/// each sum takes the right bounds.
+pub fn right_bounds() -> Routine {
+    let mut r = int_with_bounds();
+    for i in 0..72 {
+        let place = by_int(&mut r, Some(i * 5 % 8));
+        let value = r.constant(i);
+        r.assign(place, value);
+    }
+    r
+}
+
+/// `p = (int*)malloc(8); x = (int)p`, in 8 nodes.
+fn int_with_bounds() -> Routine {
+    let mut r = one_int();
+    r.block(1, entry(0), 8);
+    let place = r.variable(0);
+    let pointer = r.get(1);
+    let value = r.cast(pointer, INT);
+    r.assign(place, value);
+    r
+}
+
+/// `*(int*)x`, or `*(int*)(n + x)`.
+fn by_int(r: &mut Routine, n: Option<u32>) -> u32 {
+    let n = n.map(|n| r.constant(n));
+    let x = r.get(0);
+    let int = n.map_or(x, |n| r.sum(n, x));
+    let pointer = r.cast(int, entry(0));
+    r.follow(pointer)
+}
+
 /// Routines that differ, so that the processor can't foresee their branches
 /// as it does those of one table that comes again and again.
 pub fn mixed(count: usize) -> Vec<Routine> {
