@@ -18,7 +18,7 @@ in_list { list[listed++] = digits($0) }
 END {
     inputs = text[1] + 0
     table = 2 + inputs
-    if (bad || read < table || text[0] + 0 > 4096 || inputs > 64 || read - table > 2470 || listed > 70000) {
+    if (bad || read < table || text[0] + 0 > 4096 || inputs > 64 || read - table > 2472 || listed > 70000) {
         print "input"
         exit
     }

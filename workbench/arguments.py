@@ -1,12 +1,13 @@
-"""What a command line hands to a run: numbers, inputs and registers by name."""
+"""What a command line hands to a run: numbers, the edition, inputs and registers by name."""
 
 import re
 
 from .errors import Faulty, Usage
 from .machine import LONGEST
 from .source import Source
-from .table import INT, WORD
+from .table import EDITIONS, INT, WORD
 from .text import read_numbers
+from .wording import listed
 
 
 def read_file(path, encoding="utf-8"):
@@ -32,6 +33,14 @@ def memory_length(text, most=LONGEST):
     value = number(text, "--memory")
     if value > most:
         raise Usage(f"mavis: --memory: {text} is more than {most} words")
+    return value
+
+
+def edition(text):
+    """The edition that C is built in: 1 where none is asked for."""
+    value = number(text, "--edition") if text is not None else 1
+    if value not in EDITIONS:
+        raise Usage(f"mavis: --edition: there is no edition {text}; there are {listed([str(one) for one in EDITIONS])}")
     return value
 
 

@@ -59,6 +59,7 @@ def parser():
 def add_arguments(one, name):
     """The arguments of a command."""
     one.add_argument("file", metavar="FILE", help="C (NAME.c)" if name == "build" else "C (NAME.c), or a text of the bench program")
+    one.add_argument("--edition", metavar="N", help="the edition of the cast rule that C is built in, 1 or 2; 1 without it")
     if name in ("run", "report", "build"):
         one.add_argument("--memory", metavar="N", help="words of memory; 4096 for C, else as the text says")
         one.add_argument("--input", metavar="NAME=N", action="append", default=[], help="what the int NAME starts as; several can follow")

@@ -1,6 +1,6 @@
 """The commands of `mavis`: from options to lines and an exit status."""
 
-from .arguments import inputs_of, memory_length, read_file, registers_of
+from .arguments import edition, inputs_of, memory_length, read_file, registers_of
 from .copies import told_apart
 from .endings import Ending
 from .errors import REFUSED, Faulty, Usage
@@ -45,13 +45,25 @@ def is_c(path):
     return path.endswith(".c")
 
 
+def routine_of_c(options):
+    """The routine of a file of C, in the edition asked for."""
+    return translate(options.file, read_file(options.file), edition(options.edition))
+
+
+def text_of(options, limited=True):
+    """The bench text of a file."""
+    if options.edition is not None:
+        raise Usage(f"mavis: --edition is for C; {options.file} is a table, whose words tell its edition")
+    return read_text(Source(options.file, read_file(options.file, "latin-1")), limited)
+
+
 def prepared(options, machine):
     """The routine of a file, its text if it is a bench text, and the call that the options ask for. A bench text whose table is refused has no
     routine, and its call takes no names."""
     if is_c(options.file):
-        routine, text = translate(options.file, read_file(options.file)), None
+        routine, text = routine_of_c(options), None
     else:
-        text = read_text(Source(options.file, read_file(options.file, "latin-1")), limited=options.memory is None)
+        text = text_of(options, limited=options.memory is None)
         if machine.check(text.words) is not None:
             return None, text, Call(text.words, text.memory, text.inputs)
         routine = routine_of_text(text)
@@ -87,7 +99,8 @@ def check(options):
         print(refusal)
         return REFUSED
     table = routine.table
-    print(f"{options.file}: passes: {len(table.variables)} variables, {len(table.nodes)} nodes, {len(table.commands)} commands")
+    told = f"edition {table.edition}, " if table.is_marked else ""
+    print(f"{options.file}: passes: {told}{len(table.variables)} variables, {len(table.nodes)} nodes, {len(table.commands)} commands")
     return 0
 
 
@@ -105,10 +118,10 @@ def checked(options):
     """The routine of a file, or None and the refusal of its table in words."""
     routine = text = None
     if is_c(options.file):
-        routine = translate(options.file, read_file(options.file))
+        routine = routine_of_c(options)
         words = routine.table.words()
     else:
-        text = read_text(Source(options.file, read_file(options.file, "latin-1")))
+        text = text_of(options)
         words = text.words
     answer = Machine().check(words)
     if answer is not None:
@@ -120,7 +133,7 @@ def build(options):
     """Makes the text of a routine in C, or its listing."""
     if not is_c(options.file):
         raise Usage(f"mavis build: {options.file}: a file NAME.c is wanted")
-    routine = translate(options.file, read_file(options.file))
+    routine = routine_of_c(options)
     memory = memory_length(options.memory, MEMORY) if options.memory else MEMORY
     inputs = inputs_of(routine, options.input)
     lines = listing(routine) if options.listing else bench_text(routine.table, memory, inputs)

@@ -1,6 +1,8 @@
-"""Tables made from a table: cut after a command, cut with a pointer sent out of its bounds, and with another source of a copy."""
+"""Tables made from a table, in its edition: cut after a command, cut with a pointer sent out of its bounds, and with another source of a copy."""
 
-from .table import CAST, CONSTANT, OPERANDS, PLACE, SECTIONS, SUM, VALUE, Table
+from dataclasses import replace
+
+from .table import CAST, CONSTANT, OPERANDS, PLACE, SECTIONS, SUM, VALUE
 
 FAR = 1 << 31  # no memory reaches this far, so a pointer moved by it is out of every bounds
 NODES_AT_MOST = next(section.most for section in SECTIONS if section.name == "nodes")
@@ -59,5 +61,4 @@ def renumbered(table, entries, count):
     for _, (kind, *operands) in entries:
         nodes.append((kind, *(numbers[word] if role in (VALUE, PLACE) else word for role, word in zip(OPERANDS[kind], operands))))
     commands = [(numbers[place], numbers[value]) for place, value in table.commands[:count]]
-    cut = Table(table.records, table.fields, table.pointers, table.variables, nodes, commands)
-    return cut, list(numbers)
+    return replace(table, nodes=nodes, commands=commands), list(numbers)

@@ -5,8 +5,8 @@ from dataclasses import dataclass
 from functools import cached_property
 from typing import Callable
 
-from .table import ADDRESS, COPY, DEREF, FIELD, FIELD_WORDS, FIRST_POINTER, INT, KIND_NAMES, MALLOC, OPERANDS, PLACE, RECORD, SECTIONS
-from .table import SUM, UNUSED, VALUE, Spot, Table, spot
+from .table import ADDRESS, CAST, COPY, DEREF, FIELD, FIELD_WORDS, FIRST_POINTER, HEAD, INT, KIND_NAMES, MALLOC, MARK, OPERANDS, PLACE, READ
+from .table import RECORD, SECTIONS, SUM, UNUSED, VALUE, Spot, Table, head_length, spot
 from .wording import a_type, base_of, counted, listed, node_words, type_words
 
 RECORDS, FIELDS, POINTERS, VARIABLES, NODES, COMMANDS = SECTIONS
@@ -61,7 +61,7 @@ class Case:
 
     @cached_property
     def table(self):
-        """For refusals from 4 on: the words are cut up rightly then."""
+        """For refusals from 4 to 9: the words are cut up rightly then."""
         return Table.of(self.words)
 
     @property
@@ -69,14 +69,14 @@ class Case:
         return self.words[self.place]
 
     def count_place(self, section):
-        at = 0
+        at = head_length(self.words)
         for before in SECTIONS[: section.number - 1]:
             at += 1 + len(before.words) * self.words[at]
         return at
 
 
 def table_fault(words, number, place):
-    """What is wrong with a table that the machine refuses by 1 to 9."""
+    """What is wrong with a table that the machine refuses by 1 to 9 or 16."""
     return Fault(*FAULTS[number](Case(words, place, spot(words, place))))
 
 
@@ -84,11 +84,18 @@ def name_of(section):
     return f"section {section.number} ({section.name})"
 
 
-# Refusals 1 to 3: how the words fall into sections.
+# Refusals 16 and 1 to 3: the edition, and how the words fall into sections.
+
+
+def wrong_edition(case):
+    why = "a table of edition 1 has no mark" if case.word == 1 else f"there is no edition {case.word}"
+    return "another edition than 2", f"{case.word} follows the mark {MARK}, and {why}", "2; or neither of the two words, for edition 1"
 
 
 def cut_short(case):
     at, section, title = case.at, case.at.section, "the table ends too soon"
+    if section is HEAD:
+        return title, f"the table has 1 word, the mark {MARK}, and ends before the edition", "2, then the six sections"
     later = [str(after.number) for after in SECTIONS[section.number :]]
     rest = f", then section{'s' if len(later) > 1 else ''} {listed(later)}" if later else ""
     if at.entry is None:
@@ -275,21 +282,26 @@ def types_of_copy(table, a, b):
 
 
 def copy_that_fits(table, a, b):
-    """What would fit where the operands of a copy do not: both of the type that one of them has, or of any that points to a record. As for other
-    nodes, a cast from int is not proposed."""
+    """What would fit where the operands of a copy do not: both of the type that one of them has, or of any that points to a record. Casts are
+    proposed as for other nodes."""
     own = [table.node_type(a), table.node_type(b)]
     types = [other for other in (*own, *range(FIRST_POINTER, FIRST_POINTER + len(table.pointers))) if points_to_record(table, other)]
     if not types:
         return f"two pointers to one record; section 3 has none (its target would be {RECORD} + a record)"
     wanted = f"type {types[0]} ({type_words(table, types[0])})"
-    cast = [f"node {node}" for node, type_ in zip((a, b), own) if type_ not in (INT, types[0])]
-    if INT in own or not cast:
+    if not all(can_have_bounds(table, node) for node in (a, b)):
         return f"two pointers to one record, such as {wanted}"
+    cast = [f"node {node}" for node, type_ in zip((a, b), own) if type_ != types[0]]
     return f"two pointers to one record: {'a cast' if len(cast) == 1 else 'casts'} (kind 8) of {listed(cast)} to {wanted}"
 
 
+def can_have_bounds(table, node):
+    """Whether a value can have bounds: a pointer can, and where ints can, an int that is not a number of its own."""
+    return table.node_type(node) != INT or (table.ints_have_bounds and table.nodes[node][0] in (SUM, READ, CAST))
+
+
 def typed_operand(table, number, need, child):
-    """What would fit where a child's type does not. A cast from int is not proposed: it would give a pointer without bounds."""
+    """What would fit where a child's type does not. A cast of what can't have bounds is not proposed: nothing could be followed by it."""
     kind, a, b = table.nodes[number]
     types = [other for other in range(FIRST_POINTER + len(table.pointers)) if need.fits(table, other)]
     if kind == SUM and table.node_type(a) == INT:
@@ -300,7 +312,7 @@ def typed_operand(table, number, need, child):
         more = f"an entry with target {INT} would be int *" if kind == DEREF else f"its target would be {RECORD} + a record"
         return f"{need.what}; section 3 has none ({more})"
     cast = f": a cast (kind 8) of node {child} to type {types[0]} ({type_words(table, types[0])})"
-    return f"{need.what}{'' if table.node_type(child) == INT else cast}"
+    return f"{need.what}{cast if can_have_bounds(table, child) else ''}"
 
 
 def node_name(table, number):
@@ -349,4 +361,5 @@ FAULTS = {
     7: wrong_word,
     8: wrong_types,
     9: wrong_uses,
+    16: wrong_edition,
 }

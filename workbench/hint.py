@@ -1,7 +1,7 @@
 """Where a word of a text may be missing or too many. After a dropped word a table is read one word off, and the refusal comes far behind. Texts are
 mostly written with whole entries on a line and each section at the start of one: the first line that breaks this shows where it went wrong."""
 
-from .table import SECTIONS
+from .table import SECTIONS, head_length
 from .wording import counted
 
 NODE = 3  # words; nodes go over many lines
@@ -11,7 +11,9 @@ def suspect(text):
     """The section and the line where a word may be missing or too many; None where the lines of a text break nothing."""
     lines = [span.line for span in text.spans]
     starts = [at for at in range(len(lines)) if at == 0 or lines[at - 1] != lines[at]]
-    at = 0
+    at = head_length(text.words)
+    if at not in starts:
+        return None
     for section in SECTIONS:
         width = len(section.words)
         end = at + 1 + width * text.words[at]

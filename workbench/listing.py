@@ -7,11 +7,12 @@ from .table import FIRST_POINTER
 
 
 def listing(routine):
-    """All lines of the C, each followed by its entries; then the pointer types, which come from anywhere."""
+    """The edition, where the table says it; all lines of the C, each followed by its entries; then the pointer types, which come from anywhere."""
     entries = defaultdict(list)
     declared(entries, routine, routine.scope)
     commanded(entries, routine)
-    lines = []
+    table = routine.table
+    lines = [f"        edition {table.edition}: {' '.join(map(str, table.head()))}"] if table.is_marked else []
     for number, line in enumerate(routine.source.text.rstrip("\n").split("\n"), 1):
         lines.append(f"{number:5} | {line}".rstrip())
         lines += [f"        {entry}" for entry in entries[number]]

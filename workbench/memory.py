@@ -1,4 +1,4 @@
-"""Memory after a run as lines: every word with its name and value, a pointer with what it points to and its bounds."""
+"""Memory after a run as lines: every word with its name and value; a pointer, and an int that has bounds, with what it leads to and these."""
 
 from .table import INT
 from .wording import counted
@@ -52,13 +52,20 @@ def word_row(regions, region, word):
     return str(word), name or region.name, str(value), note(regions, type, value, base, end)
 
 
-def note(regions, type, value, base, end):
-    """What a word's value means: of a pointer where it points and its bounds."""
-    if not end:
-        return "" if type in (INT, None) else "null" if value == 0 else "no bounds"
-    bounds = f"bounds [{base}, {end}): {regions.stretch_name(base, end)}"
+def leads(regions, type, end):
+    """Whether a word leads to a place: one of pointer type does, and one with bounds; of an int these have to be its own."""
     if type == INT:
-        return f"an int over {bounds}"
+        return bool(end) and regions.table.ints_have_bounds
+    return type is not None or bool(end)
+
+
+def note(regions, type, value, base, end):
+    """What a word's value means: where it leads, and its bounds."""
+    bounds = f"bounds [{base}, {end}): {regions.stretch_name(base, end)}" if end else ""
+    if not leads(regions, type, end):
+        return bounds and f"an int over {bounds}"
+    if not end:
+        return "null" if value == 0 else "no bounds"
     outside = "" if base <= value < end else "outside its "
     return f"-> {regions.word_name(value, type) or 'no word in use'}, {outside}{bounds}"
 

@@ -1,6 +1,6 @@
 """A refusal as it is printed: where it is, what is wrong there, what would fit."""
 
-from .faults import Fault, table_fault
+from .faults import FAULTS, Fault, table_fault
 from .hint import hint
 from .machine import LONGEST
 from .table import spot
@@ -13,7 +13,7 @@ REGISTERS = 16  # the most that a call takes
 def shown_refusal(routine, text, call, answer):
     """A refusal of a call. `routine` is None for a text whose table is refused, `text` for C."""
     number, place = answer.number, answer.place
-    if number <= 9:
+    if number in FAULTS:
         fault, where, span = table_fault(call.table, number, place), str(spot(call.table, place)), table_span(routine, text, call, place)
     else:
         fault, where, at = CALL_FAULTS[number](routine, call, place)
@@ -21,7 +21,7 @@ def shown_refusal(routine, text, call, answer):
     head = f"refused {number}, place {place}: {fault.title}"
     name = (routine or text).source.name
     lines = [span.shown(head) if span else f"{name}: {head}", f"  where: {where}", f"  wrong: {fault.wrong}", f"  fits:  {fault.fits}"]
-    told = hint(text, place) if text and number <= 9 else None
+    told = hint(text, place) if text and number in FAULTS else None
     return "\n".join(lines + [f"  hint:  {told}"] * bool(told))
 
 

@@ -1,5 +1,5 @@
-"""A table as C with its entries beside it. For a table that was made from C, the C that is printed gives the same table again. What C can't say
-is in a comment, with its nodes."""
+"""A table as C with its entries beside it. For a table that was made from C, the C that is printed gives the same table again, in the edition that
+it names. What C can't say is in a comment, with its nodes."""
 
 from .errors import Faulty, Usage
 from .table import CAST, SIZE
@@ -10,7 +10,7 @@ UNTRIED = "/* pycparser is missing, so that this C was not translated to see tha
 
 
 def shown_table(routine):
-    """The lines: types, variables, then the commands with their nodes."""
+    """The lines: the edition, unless it is 1, types, variables, then the commands with their nodes."""
     declared = declarations(routine)
     count = len(routine.table.commands)
     commands = [routine.unparser.command(number) for number in range(count)]
@@ -18,12 +18,17 @@ def shown_table(routine):
         said, remark = are_said(routine, range(count), declared, commands), []
     except Usage:
         said, remark = True, [UNTRIED]
-    lines = [*remark, *declared, "void routine(void) {"]
+    lines = [*edition_lines(routine.table), *remark, *declared, "void routine(void) {"]
     for number, command in enumerate(commands):
         lines += node_lines(routine, number)
         is_c = said or are_said(routine, [number], declared, [command])
         lines.append(f"    {command}" if is_c else f"    /* {UNSAYABLE} {command} */")
     return lines + ["}"]
+
+
+def edition_lines(table):
+    """C has no word for it."""
+    return [f"/* edition {table.edition}: build it with --edition {table.edition} */"] if table.is_marked else []
 
 
 def declarations(routine):

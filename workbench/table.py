@@ -1,10 +1,13 @@
-"""A table as document 01 lays it out: six sections of entries, each section after its count."""
+"""A table as document 01 lays it out: six sections of entries, each section after its count. Before them stand a mark and the edition, unless that is
+1."""
 
 from dataclasses import dataclass, field
 
 RECORD = 65536  # a target or a size names record r as RECORD + r
 WORD = 1 << 32  # words are below this
 INT, VOID_POINTER, FIRST_POINTER = 0, 1, 2  # types: int, pointer to void, pointer entry 0
+EDITIONS = (1, 2)  # of the cast rule
+MARK = WORD - 1  # the first word of a table of an edition other than 1
 
 (VARIABLE, DEREF, FIELD, CONSTANT, SUM, READ, ADDRESS, CAST, SIZE, MALLOC, COPY) = range(1, 12)
 KIND_NAMES = {
@@ -56,11 +59,17 @@ SECTIONS = (
     Section(5, "nodes", 512, ("kind", "a", "b")),
     Section(6, "commands", 256, ("place node", "value node")),
 )
+HEAD = Section(0, "head", 1, ("mark", "edition"))  # the two words that can stand before section 1
+
+
+def head_length(words):
+    """How many words stand before section 1."""
+    return len(HEAD.words) if words[:1] == [MARK] else 0
 
 
 @dataclass
 class Table:
-    """The entries of the six sections: words, or tuples of words."""
+    """The entries of the six sections: words, or tuples of words; and the edition."""
 
     records: list = field(default_factory=list)
     fields: list = field(default_factory=list)
@@ -68,6 +77,20 @@ class Table:
     variables: list = field(default_factory=list)
     nodes: list = field(default_factory=list)
     commands: list = field(default_factory=list)
+    edition: int = 1
+
+    @property
+    def is_marked(self):
+        return self.edition != 1
+
+    @property
+    def ints_have_bounds(self):
+        """Whether ints have bounds as pointers do, through casts, reads, sums and assignments."""
+        return self.edition == 2
+
+    def head(self):
+        """The words before section 1."""
+        return [MARK, self.edition] if self.is_marked else []
 
     def sections(self):
         """Each section's entries as lists of words."""
@@ -77,7 +100,7 @@ class Table:
 
     def words(self):
         """The table as the machine takes it."""
-        words = []
+        words = self.head()
         for entries in self.sections():
             words.append(len(entries))
             for entry in entries:
@@ -87,7 +110,8 @@ class Table:
     @staticmethod
     def of(words):
         """The table of words that are cut up rightly: of a table that is refused by 4 or above, or passes."""
-        table, at = Table(), 0
+        at = head_length(words)
+        table = Table(edition=words[1] if at else 1)
         for section in SECTIONS:
             count, width = words[at], len(section.words)
             ends = range(at + 1 + width, at + 1 + width * (count + 1), width)
@@ -165,8 +189,8 @@ class Table:
 
 @dataclass(frozen=True)
 class Spot:
-    """Where a word of a table stands: a section, an entry of it and a word of the entry. An entry of None is the section's count; a section of
-    None is past the last section."""
+    """Where a word of a table stands: a section, or the head, an entry of it and a word of the entry. An entry of None is the section's count; a
+    section of None is past the last section."""
 
     section: Section = None
     entry: int = None
@@ -175,6 +199,8 @@ class Spot:
     def __str__(self):
         if self.section is None:
             return "after section 6, the last one"
+        if self.section is HEAD:
+            return f"before section 1, the {HEAD.words[self.word]}"
         name = f"section {self.section.number} ({self.section.name})"
         if self.entry is None:
             return f"{name}, its count"
@@ -184,7 +210,9 @@ class Spot:
 
 def spot(words, place):
     """Where the word at this place of a list of words stands, read as a table; also one word past a list that is cut short."""
-    at = 0
+    at = head_length(words)
+    if place < at:
+        return Spot(HEAD, 0, place)
     for section in SECTIONS:
         if place == at or at >= len(words):
             return Spot(section)

@@ -7,7 +7,7 @@ from .errors import Faulty
 from .source import Source, Span
 from .table import WORD
 
-MEMORY, INPUTS, TABLE = 4096, 64, 2470  # the bench program's limits
+MEMORY, INPUTS, TABLE = 4096, 64, 2472  # the bench program's limits
 
 
 @dataclass
@@ -65,8 +65,9 @@ def read_text(source, limited=True):
 
 
 def bench_text(table, memory, inputs):
-    """A table as lines that the bench program takes: memory, inputs, sections 1 to 4, the nodes of each command, the commands."""
-    lines = [[memory], [len(inputs), *inputs]]
+    """A table as lines that the bench program takes: memory, inputs, the mark with the edition, sections 1 to 4, the nodes of each command, the
+    commands."""
+    lines = [[memory], [len(inputs), *inputs]] + [table.head()] * table.is_marked
     for entries in table.sections()[:4]:
         lines.append([len(entries), *(word for entry in entries for word in entry)])
     lines.append([len(table.nodes)])

@@ -13,17 +13,17 @@ from .table import ADDRESS, COPY, FIRST_POINTER, INT, RECORD, SECTIONS, VOID_POI
 CALLED = {"records": "structs", "pointers": "pointer types"}
 
 
-def translate(name, text):
-    """The routine of a C text of this name. Raises Faulty for what is not in the fragment."""
+def translate(name, text, edition=1):
+    """The routine of a C text of this name, in an edition. Raises Faulty for what is not in the fragment."""
     source = Source(name, text)
-    return Numbering(Reader(source, *parse(source)).read()).routine()
+    return Numbering(Reader(source, *parse(source)).read(), edition).routine()
 
 
 class Numbering:
     """Gives types, variables and nodes their numbers: pointer types as they are met, nodes as they are worked out."""
 
-    def __init__(self, text):
-        self.text, self.table, self.node_spans, self.struct_spans = text, Table(), [], {}
+    def __init__(self, text, edition):
+        self.text, self.table, self.node_spans, self.struct_spans = text, Table(edition=edition), [], {}
 
     def routine(self):
         scope = self.text.scope

@@ -38,9 +38,9 @@ def routine(statements, declarations=DECLARATIONS):
     return f"{declarations}void routine(void) {{\n{statements}\n}}\n"
 
 
-def words(statements):
+def words(statements, edition=1):
     """The table of a routine with these statements."""
-    return translate("test.c", routine(statements)).table.words()
+    return translate("test.c", routine(statements), edition).table.words()
 
 
 def fault(text):
@@ -59,9 +59,9 @@ def mavis(*arguments, folder=ROOT, **environment):
     return done.returncode, done.stdout.decode(), done.stderr.decode()
 
 
-def explained(text, memory=64, registers=(0,)):
+def explained(text, memory=64, registers=(0,), edition=1):
     """The routine of a C text, and the machine's answer."""
-    made = translate("test.c", text)
+    made = translate("test.c", text, edition)
     call = Call(made.table.words(), memory, [0] * len(made.table.variables), list(registers))
     (answer,) = MACHINE.explain([call])
     return made, told_apart(MACHINE, call, answer)

@@ -71,11 +71,22 @@ def sharing_rows():
 
 def sharing_calls():
     """Those examples as calls."""
+    for _, _, nodes, commands, _ in sharing_rows():
+        yield shared_call(nodes, commands)
+
+
+def shared_call(nodes, commands, edition=1):
+    """The call of nodes and commands behind those declarations."""
     (memory,) = PAGE.said(r"All examples have memory of (\d+) words and start with these declarations")
     words, _, _ = shared_declarations()
-    for _, _, nodes, commands, _ in sharing_rows():
-        sections = [len(nodes), *numbers(" ".join(nodes)), len(commands), *numbers(" ".join(commands))]
-        yield Call(words + sections, int(memory), [0, 0, 0])
+    sections = [len(nodes), *numbers(" ".join(nodes)), len(commands), *numbers(" ".join(commands))]
+    return Call([*Table(edition=edition).head(), *words, *sections], int(memory), [0, 0, 0])
+
+
+def edition_rows():
+    """The examples of the editions, which begin with the same declarations: the code of the C, the nodes, the commands and both answers."""
+    for row in PAGE.rows("Editions", "C | Nodes | Commands | Edition 1 | Edition 2"):
+        yield list(map(codes, row))
 
 
 @dataclasses.dataclass

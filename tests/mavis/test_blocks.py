@@ -40,7 +40,7 @@ class Blocks(unittest.TestCase):
         for number in range(150):
             with self.subTest(number):
                 routine = routines.make(99, number)
-                made = translate("random.c", routine.for_translation())
+                made = translate("random.c", routine.for_translation(), routine.edition)
                 call = call_of(made, routine)
                 (answer,) = MACHINE.explain([call])
                 regions = Regions(made, MACHINE, call, answer)

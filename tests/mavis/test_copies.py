@@ -22,7 +22,7 @@ class Copies(unittest.TestCase):
             if routine.astray_side is None:
                 continue
             with self.subTest(number):
-                made = translate("random.c", routine.for_translation())
+                made = translate("random.c", routine.for_translation(), routine.edition)
                 call = call_of(made, routine)
                 (answer,) = MACHINE.explain([call])
                 self.assertEqual(told_apart(MACHINE, call, answer).cause.operand, routine.astray_side)

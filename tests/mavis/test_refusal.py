@@ -2,6 +2,7 @@
 
 import collections
 import random
+import re
 import tempfile
 import unittest
 from pathlib import Path
@@ -228,6 +229,69 @@ FAULTS = [
      "one use; a further one needs a copy of the node"),
 ]  # fmt: skip
 
+# The same of tables that begin with the mark.
+MARKED = [
+    # refused 1 1
+    ("4294967295",
+     "before section 1, the edition",
+     "the table has 1 word, the mark 4294967295, and ends before the edition",
+     "2, then the six sections"),
+    # refused 1 2
+    ("4294967295 2",
+     "section 1 (records), its count",
+     "the table has 2 words and ends before the count of section 1 (records)",
+     "the count of section 1, then sections 2, 3, 4, 5 and 6; a section without entries is the word 0"),
+    # refused 3 2
+    ("4294967295 2 4294967295",
+     "section 1 (records), its count",
+     "the count is 4294967295, and section 1 (records) has at most 32 entries",
+     "at most 32"),
+    # refused 16 1
+    ("4294967295 3",
+     "before section 1, the edition",
+     "3 follows the mark 4294967295, and there is no edition 3",
+     "2; or neither of the two words, for edition 1"),
+    # refused 16 1
+    ("4294967295 1 0 0 0 0 0 0",
+     "before section 1, the edition",
+     "1 follows the mark 4294967295, and a table of edition 1 has no mark",
+     "2; or neither of the two words, for edition 1"),
+    # refused 16 1
+    ("4294967295 4294967295 2 0 0 0 0 0 0",
+     "before section 1, the edition",
+     "4294967295 follows the mark 4294967295, and there is no edition 4294967295",
+     "2; or neither of the two words, for edition 1"),
+]  # fmt: skip
+
+# Tables in which an int stands where a pointer is wanted: the node at fault, and what would fit in edition 1 and in edition 2, where the int can
+# have bounds. All have the declarations of docs/TABLE.md's examples: type 2 is record 0 *, type 3 int *, variable 2 an int.
+INTS = [
+    ("3 1 2 0 6 0 0 2 1 0",
+     "a pointer to a type",
+     "a pointer to a type: a cast (kind 8) of node 1 to type 3 (int *)"),
+    ("3 1 2 0 6 0 0 3 1 0",
+     "a pointer to a record",
+     "a pointer to a record: a cast (kind 8) of node 1 to type 2 (record 0 *)"),
+    ("2 4 7 0 2 0 0",
+     "a pointer to a type",
+     "a pointer to a type"),
+    ("2 9 0 0 3 0 0",
+     "a pointer to a record",
+     "a pointer to a record"),
+    ("5 1 0 0 6 0 0 1 2 0 6 2 0 11 1 3",
+     "two pointers to one record, such as type 2 (record 0 *)",
+     "two pointers to one record: a cast (kind 8) of node 3 to type 2 (record 0 *)"),
+    ("5 1 2 0 6 0 0 1 1 0 6 2 0 11 1 3",
+     "two pointers to one record, such as type 2 (record 0 *)",
+     "two pointers to one record: casts (kind 8) of node 1 and node 3 to type 2 (record 0 *)"),
+    ("4 1 2 0 6 0 0 4 7 0 11 1 2",
+     "two pointers to one record, such as type 2 (record 0 *)",
+     "two pointers to one record, such as type 2 (record 0 *)"),
+]  # fmt: skip
+DECLARATIONS = "1 2 2 0 2 0 2 3 65536 0 3 3 2 3 0"
+MARK = "4294967295 2"
+NUMBERS = {*range(1, 10), 16}  # of the refusals that go by the table alone
+
 
 def numbers(text):
     return [int(word) for word in text.split()]
@@ -260,16 +324,39 @@ def texts():
     return [path.read_text() for path in sorted(ROOT.glob("routines/*.txt")) if path.stem != "nocast"]
 
 
+def marked(words):
+    """What is said of a table's places and of its length where the mark and the edition stand before it."""
+    return re.sub(r"(?<=at place )\d+|(?<=the table has )\d+", lambda number: str(int(number[0]) + 2), words)
+
+
 class Refusals(unittest.TestCase):
-    def test_each_condition(self):
-        answers = verdicts([numbers(table) for table, *_ in FAULTS])
-        for (table, where, wrong, fits), (number, place) in zip(FAULTS, answers):
+    def check_faults(self, faults):
+        answers = verdicts([numbers(table) for table, *_ in faults])
+        for (table, where, wrong, fits), (number, place) in zip(faults, answers):
             with self.subTest(table):
                 fault = table_fault(numbers(table), number, place)
                 self.assertEqual((str(spot(numbers(table), place)), fault.wrong, fault.fits), (where, wrong, fits))
 
+    def test_each_condition(self):
+        self.check_faults(FAULTS + MARKED)
+
+    def test_each_condition_behind_the_mark(self):
+        """The same words, of places that are two further on."""
+        self.check_faults([(f"{MARK} {table}", where, marked(wrong), marked(fits)) for table, where, wrong, fits in FAULTS])
+        plain, behind = (verdicts([numbers(head + table) for table, *_ in FAULTS]) for head in ("", f"{MARK} "))
+        self.assertEqual([(number, place + 2) for number, place in plain], behind)
+
+    def test_ints_for_pointers(self):
+        """A cast is proposed where it can have bounds."""
+        for nodes, *both in INTS:
+            for head, fits in zip(("", MARK), both):
+                with self.subTest(nodes, head=head):
+                    table = numbers(f"{head} {DECLARATIONS} {nodes} 0")
+                    ((number, place),) = verdicts([table])
+                    self.assertEqual((number, table_fault(table, number, place).fits), (8, fits))
+
     def test_all_numbers_are_among_them(self):
-        self.assertEqual({number for number, _ in verdicts([numbers(table) for table, *_ in FAULTS])}, set(range(1, 10)))
+        self.assertEqual({number for number, _ in verdicts([numbers(table) for table, *_ in FAULTS + MARKED])}, NUMBERS)
 
     def test_damaged_tables_have_words(self):
         rng = random.Random(17)
@@ -280,13 +367,13 @@ class Refusals(unittest.TestCase):
             if verdict:
                 seen[verdict[0]] += 1
                 self.check_words(words, *verdict)
-        self.assertEqual(set(seen), set(range(1, 10)))
+        self.assertEqual(set(seen), NUMBERS)
 
     def check_words(self, words, number, place):
         """That what is said of a damaged table is so, as far as the numbers in it tell."""
         fault, at = table_fault(words, number, place), spot(words, place)
         self.assertTrue(fault.title and fault.wrong and fault.fits)
-        if number in (1, 2, 3):
+        if number in (1, 2, 3, 16):
             self.assertEqual(place, len(words) if number == 1 else place)
             return
         if at.entry is None:
@@ -322,6 +409,12 @@ class Refusals(unittest.TestCase):
             lines = [" ".join(words[at : at + wide]) for at in range(0, len(words), wide)]
             changed = read_text(Source("routine.txt", "\n".join(lines)))
             self.assertIsNone(hint(changed, len(changed.words) - 1))
+
+    def test_texts_without_sections_have_no_hint(self):
+        for table in ("", "4294967295", "4294967295 2", "4294967295\n2\n", "4294967295 3\n0\n0\n"):
+            with self.subTest(table):
+                text = read_text(Source("routine.txt", f"1\n0\n{table}"))
+                self.assertIsNone(hint(text, min(1, len(text.words))))
 
 
 def one_word_off(text):

@@ -1,5 +1,6 @@
 """routines/README.md and the routines themselves against the proved machine and the translation from C."""
 
+import dataclasses
 import unittest
 
 from pages import ROOT, Page, codes, mavis, numbers
@@ -19,8 +20,9 @@ NO_CAST = "nocast"  # its table lacks a cast that the translation makes
 
 
 def listed():
-    """The rows of the page's two tables: routines without registers, and with them."""
-    return PAGE.rows("Routines", "Routine | Shows | Ends | Wanted"), PAGE.rows("Routines", "Routine | Registers | Shows | Ends | Wanted")
+    """The rows of the page's three tables: routines without registers, with them, and of edition 2."""
+    columns = "Shows | Ends | Wanted"
+    return [PAGE.rows("Routines", f"Routine | {each}") for each in (columns, f"Registers | {columns}", f"{columns} | In edition 1")]
 
 
 def names(suffix):
@@ -39,8 +41,13 @@ def call(name, table=None):
     return Call(read.words if table is None else table.words(), read.memory, read.inputs, numbers(content(name, "registers") or "0"))
 
 
+def edition(name):
+    """The edition of a routine's text."""
+    return Table.of(read_text(Source(name, content(name, "txt"))).words).edition
+
+
 def of_c(name):
-    return translate(f"{name}.c", content(name, "c"))
+    return translate(f"{name}.c", content(name, "c"), edition(name))
 
 
 def wanted(cause):
@@ -69,28 +76,37 @@ def without(table, node):
 
 
 class RoutinesPage(unittest.TestCase):
-    """The page's two tables."""
+    """The page's three tables."""
 
     def test_every_routine_is_listed_once(self):
-        plain, with_registers = listed()
-        self.assertEqual((16, 7), (len(plain), len(with_registers)))
-        self.assertEqual(2, len(PAGE.grids))
+        plain, with_registers, edition_2 = listed()
+        self.assertEqual([16, 7, 2], list(map(len, listed())))
+        self.assertEqual(3, len(PAGE.grids))
         for suffix in ("c", "txt", "out"):
             with self.subTest(suffix):
-                self.assertEqual(sorted(row[0] for row in plain + with_registers), names(suffix))
+                self.assertEqual(sorted(row[0] for row in plain + with_registers + edition_2), names(suffix))
         self.assertEqual(sorted(row[0] for row in with_registers), names("registers"))
+        self.assertEqual(sorted(row[0] for row in edition_2), [name for name in names("txt") if edition(name) == 2])
 
     def test_every_file_is_of_a_routine(self):
         others = [path.name for path in FOLDER.iterdir() if path.suffix not in (".c", ".txt", ".out", ".registers")]
         self.assertEqual(["README.md", "build", "call.awk", "prove", "run"], sorted(others))
 
     def test_ends_and_wanted(self):
-        plain, with_registers = listed()
-        rows = plain + with_registers
+        plain, with_registers, edition_2 = listed()
+        rows = plain + with_registers + [row[:-1] for row in edition_2]
         for row, answer in zip(rows, MACHINE.explain([call(row[0]) for row in rows])):
             with self.subTest(row[0]):
                 self.assertEqual(codes(row[-2]), raw_lines(answer)[:1])
                 self.assertEqual(row[-1], wanted(answer.cause))
+
+    def test_edition_1(self):
+        """How routines of edition 2 end without the mark."""
+        rows = listed()[-1]
+        unmarked = [call(row[0], dataclasses.replace(of_c(row[0]).table, edition=1)) for row in rows]
+        for row, answer in zip(rows, MACHINE.explain(unmarked)):
+            with self.subTest(row[0]):
+                self.assertEqual(codes(row[-1]), raw_lines(answer)[:1])
 
 
 class Routines(unittest.TestCase):
@@ -119,7 +135,7 @@ class Routines(unittest.TestCase):
                 read, routine = read_text(Source(name, content(name, "txt"))), of_c(name)
                 variables = zip(routine.names.own, routine.table.variables, read.inputs)
                 inputs = [f"--input={variable}={value}" for variable, type, value in variables if type == INT]
-                built = mavis("build", str(FOLDER / f"{name}.c"), f"--memory={read.memory}", *inputs)
+                built = mavis("build", str(FOLDER / f"{name}.c"), f"--memory={read.memory}", f"--edition={edition(name)}", *inputs)
                 self.assertEqual((0, content(name, "txt").splitlines()), built)
 
     def test_no_cast(self):

@@ -216,6 +216,14 @@ class Use(unittest.TestCase):
             ["build", "routines/noroom.txt"],
             ["build", noroom, "--memory", "4097"],
             ["build", noroom, "-o", "nowhere/noroom.txt"],
+            ["build", noroom, "--edition", "3"],
+            ["build", noroom, "--edition", "0"],
+            ["run", noroom, "--edition", "two"],
+            ["run", noroom, "--edition"],
+            ["run", "routines/noroom.txt", "--edition", "1"],
+            ["report", "routines/noroom.txt", "--edition", "2"],
+            ["show", "routines/keep.txt", "--edition", "2"],
+            ["check", "routines/keep.txt", "--edition", "1"],
             ["check"],
         ):
             with self.subTest(arguments):

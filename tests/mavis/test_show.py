@@ -1,5 +1,6 @@
 """What `mavis show` prints gives the same table again; what C can't say is said to be so."""
 
+import re
 import sys
 import tempfile
 import unittest
@@ -14,12 +15,15 @@ import routines  # noqa: E402
 from workbench.routine import routine_of_text  # noqa: E402
 from workbench.show import UNSAYABLE, shown_table  # noqa: E402
 from workbench.source import Source  # noqa: E402
+from workbench.table import EDITIONS  # noqa: E402
 from workbench.text import bench_text, read_text  # noqa: E402
 
 
 def again(made):
-    """The table of what is shown."""
-    return translate("shown.c", "\n".join(shown_table(made))).table.words()
+    """The table of what is shown, in the edition that its first line names."""
+    lines = shown_table(made)
+    named = re.fullmatch(r"/\* edition (\d+): build it with --edition \1 \*/", lines[0])
+    return translate("shown.c", "\n".join(lines), int(named[1]) if named else 1).table.words()
 
 
 def by_text(made):
@@ -28,15 +32,16 @@ def by_text(made):
 
 
 class Show(unittest.TestCase):
-    def check(self, text):
-        made = translate("made.c", text)
+    def check(self, text, edition=1):
+        made = translate("made.c", text, edition)
         self.assertEqual(again(made), made.table.words())
         self.assertEqual(again(by_text(made)), made.table.words())
 
     def test_routines(self):
         for path in sorted(ROOT.glob("routines/*.c")):
-            with self.subTest(path.name):
-                self.check(path.read_text())
+            for edition in EDITIONS:
+                with self.subTest(path.name, edition=edition):
+                    self.check(path.read_text(), edition)
 
     def test_statements(self):
         for statement in sorted({part for pair in SAME for part in pair}):
@@ -50,7 +55,18 @@ class Show(unittest.TestCase):
         """Those that the translation is held against gcc with."""
         for number in range(150):
             with self.subTest(number):
-                self.check(routines.make(17, number).for_translation())
+                made = routines.make(17, number)
+                self.check(made.for_translation(), made.edition)
+
+    def test_show_and_build(self):
+        """By the commands: what is shown of a text is built to that text again."""
+        for name in ("keep", "erase"):
+            with self.subTest(name), tempfile.TemporaryDirectory() as folder:
+                shown = mavis("show", f"routines/{name}.txt")[1]
+                self.assertTrue(shown.startswith("/* edition 2: build it with --edition 2 */\n"), shown)
+                Path(folder, "shown.c").write_text(shown)
+                built = mavis("build", str(Path(folder, "shown.c")), "--memory", "16", "--edition", "2")
+                self.assertEqual(built, (0, (ROOT / f"routines/{name}.txt").read_text(), ""))
 
     def shown(self, words):
         with tempfile.TemporaryDirectory() as folder:

@@ -8,12 +8,12 @@ from collections import Counter
 
 from pages import codes, count, numbers
 from table_page import MACHINE, NO_COMMANDS, PAGE, WorkedExample, call_of, declared, first_line, not_clear, routine_of
-from table_page import shared_declarations, sharing_calls, sharing_rows, type_names
+from table_page import edition_rows, shared_call, shared_declarations, sharing_calls, sharing_rows, type_names
 from workbench import text
 from workbench.commands import STATUS
 from workbench.machine import Call
-from workbench.table import ADDRESS, CAST, COPY, DEREF, FIELD, FIRST_POINTER, INT, KIND_NAMES, MALLOC, OPERANDS, PLACE, RECORD, SECTIONS
-from workbench.table import SUM, VALUE, VARIABLE, VOID_POINTER, WORD, Spot, Table, spot
+from workbench.table import ADDRESS, CAST, COPY, DEREF, EDITIONS, FIELD, FIRST_POINTER, INT, KIND_NAMES, MALLOC, OPERANDS, PLACE, RECORD
+from workbench.table import SECTIONS, SUM, VALUE, VARIABLE, VOID_POINTER, WORD, Spot, Table, spot
 
 # Every table of the page, by its heading and its columns, with its number of rows. Where rows are examples, each of them is run: a row that
 # is no longer read, or a new one, fails here.
@@ -30,20 +30,25 @@ ROWS = {
     ("Bounds", "Kind | Passes when | Place | Bounds of the place"): 3,
     ("Bounds", "Value | Its bounds"): 10,
     ("Examples of evaluation, bounds and allocation", "C | Nodes | Commands | Answer"): 7,
+    ("Editions", " | Edition 1 | Edition 2"): 3,
+    ("Editions", "An engineer wants | Edition"): 5,
+    ("Editions", "Table | Answer | "): 4,
+    ("Editions", "C | Nodes | Commands | Edition 1 | Edition 2"): 5,
     ("Endings", "Ending | When | Answered | The three lists"): 4,
     ("Why a run aborted", "Number | Meaning"): 6,
     ("Why a run aborted", "Commands | node, place, words, base, end, reason, first word"): 4,
-    ("Refusals", "No. | Condition | Place | Table | Answer"): 23,
+    ("Refusals", "No. | Condition | Place | Table | Answer"): 24,
     ("Refusals", "Kind | Not allowed"): 6,
     ("Refusals", "No. | Condition | Place | Text | Answer"): 3,
     ("Refusals", "No. | Condition | Place | List | Answer"): 9,
-    ("Order", "Table | Faults | Answer"): 8,
+    ("Order", "Table | Faults | Answer"): 9,
     ("The bench text", "Part | Limit"): 4,
     ("The bench text", "Text | Output"): 6,
     ("Worked example", "Command | Node | Words | Meaning"): 23,
 }
 # And every block that has no commands.
 BLOCKS = {"Types and records": 1, "An example of each kind": 1, "The bench text": 1, "Worked example": 5}
+LARGEST = sum(1 + section.most * len(section.words) for section in SECTIONS)  # words that the sections can have together
 
 
 def worked_out(formula, values):
@@ -62,7 +67,7 @@ class Whole(unittest.TestCase):
 
     def test_long_numbers(self):
         """Every number that is written with commas is one of the machine's own."""
-        known = {RECORD, text.MEMORY, text.TABLE, WORD, WORD - 1, WORD // 4}
+        known = {RECORD, text.MEMORY, LARGEST, text.TABLE, WORD, WORD - 1, WORD // 4}
         self.assertEqual(known, set(map(count, re.findall(r"\d+(?:,\d{3})+", "\n".join(PAGE.lines)))))
 
     def test_contents(self):
@@ -142,19 +147,23 @@ class Sections(unittest.TestCase):
         smallest, most = PAGE.said(r"The smallest table is `([^`]*)`; the largest has ([\d,]+) words")
         self.assertIsNone(MACHINE.check(numbers(smallest)))
         self.assertIsNotNone(MACHINE.check(numbers(smallest)[:-1]))
-        self.assertEqual(count(most), sum(1 + section.most * len(section.words) for section in SECTIONS))
+        self.assertEqual(count(most), LARGEST)
+        self.assertEqual(len(Table(edition=2).head()) + LARGEST, text.TABLE)
 
     def test_places(self):
-        """The place of every count and every entry of all examples, the smallest table and the worked example."""
+        """The place of every count and every entry of all examples, the smallest table and the worked example; in edition 2 two further on."""
         rows = PAGE.rows("The six sections", "Section | Place of its count | Place of the first word of entry i")
         for words in ([0] * 6, WorkedExample.of_page().call().table, *(call.table for call in sharing_calls())):
             table = Table.of(words)
+            behind = dataclasses.replace(table, edition=2).words()
             counts = dict(zip("RFPVN", map(len, table.sections())))
             for section, (number, of_count, of_entry) in zip(SECTIONS, rows):
                 self.assertEqual(section.number, int(number))
-                self.assertEqual(Spot(section), spot(words, worked_out(of_count, counts)))
+                at = worked_out(of_count, counts)
+                self.assertEqual([Spot(section)] * 2, [spot(words, at), spot(behind, at + 2)])
                 for i in range(len(getattr(table, section.name))):
-                    self.assertEqual(Spot(section, i, 0), spot(words, worked_out(of_entry, {**counts, "i": i})))
+                    at = worked_out(of_entry, {**counts, "i": i})
+                    self.assertEqual([Spot(section, i, 0)] * 2, [spot(words, at), spot(behind, at + 2)])
 
     def test_types(self):
         rows = PAGE.rows("Types and records", "Word | As a type | As a target")
@@ -270,6 +279,27 @@ class Nodes(unittest.TestCase):
         self.assertEqual(dataclasses.replace(table, pointers=met), routine.table)
         told = PAGE.said(r"The variables are words (\d), (\d) and (\d), all inputs are 0, and the first block begins at word (\d)")
         self.assertEqual([1 + i for i in range(len(table.variables) + 1)], list(map(int, told)))
+
+
+class Editions(unittest.TestCase):
+    """The examples of the two editions."""
+
+    def test_runs(self):
+        for edition in EDITIONS:
+            calls = [shared_call(nodes, commands, edition) for _, nodes, commands, *_ in edition_rows()]
+            for (c, _, _, *wanted), answer in zip(edition_rows(), MACHINE.explain(calls)):
+                with self.subTest(c, edition=edition):
+                    self.assertEqual(wanted[edition - 1], [first_line(answer), *not_clear(answer)])
+
+    def test_c(self):
+        """The C is translated into the page's nodes and commands, and what it leaves differs."""
+        _, c, _ = shared_declarations()
+        for (commands,), nodes, pairs, *answers in edition_rows():
+            with self.subTest(commands):
+                table = routine_of(c, commands).table
+                self.assertEqual(nodes, [" ".join(map(str, node)) for node in table.nodes])
+                self.assertEqual(pairs, [" ".join(map(str, pair)) for pair in table.commands])
+                self.assertNotEqual(*answers)
 
 
 class Endings(unittest.TestCase):

@@ -31,6 +31,7 @@ PLACES = {
     "the a or b": "section 5 .* its [ab]",
     "that word": "section 6 .* its (place|value) node",
     "the command's first word": "section 6 .* its place node",
+    "1, that word": "before section 1, the edition",
 }
 # A text of each sort that the page says is answered by `input`.
 OTHER_TEXTS = {
@@ -49,7 +50,7 @@ def rows_of(example):
 
 
 class OfTables(unittest.TestCase):
-    """Refusals 1 to 9."""
+    """Refusals 1 to 9, and 16."""
 
     def refused(self, given, answers):
         """Each table is refused as its row says, by the check alone and by a run."""
@@ -63,6 +64,10 @@ class OfTables(unittest.TestCase):
     def test_tables(self):
         rows = rows_of("Table")
         self.refused([row[3] for row in rows], [row[4] for row in rows])
+
+    def test_editions(self):
+        rows = PAGE.rows("Editions", "Table | Answer | ")
+        self.refused([row[0] for row in rows], [row[1] for row in rows])
 
     def test_two_faults(self):
         rows = PAGE.rows("Order", "Table | Faults | Answer")
@@ -111,11 +116,13 @@ class Told(unittest.TestCase):
 
     def test_numbers(self):
         """Which refusals depend on what, and the number that is not used."""
-        kinds = r"Refusals (\d+) to (\d+) depend on the table .* (\d+) and (\d+) depend on the memory .*, (\d+) to (\d+) on its registers"
-        *told, unused = map(int, PAGE.said(rf"{kinds}\. The number (\d+) is not used"))
+        of_tables = r"Refusals (\d+) to (\d+) and (\d+) depend on the table"
+        of_calls = r"(\d+) and (\d+) depend on the memory .*, (\d+) to (\d+) on its registers"
+        first, last, edition, *others, unused = map(int, PAGE.said(rf"{of_tables} .* {of_calls}\. The number (\d+) is not used"))
         given = [sorted({int(row[0]) for row in rows_of(example)}) for example in ("Table", "Text", "List")]
-        self.assertEqual([number for each in given for number in (each[0], each[-1])], told)
-        self.assertEqual([number for number in range(1, 16) if number != unused], sum(given, []))
+        self.assertEqual([*range(first, last + 1), edition], given[0])
+        self.assertEqual([number for each in given[1:] for number in (each[0], each[-1])], others)
+        self.assertEqual([number for number in range(1, 17) if number != unused], sorted(sum(given, [])))
 
     def test_conditions(self):
         """The limits within the conditions."""

@@ -11,6 +11,7 @@ RUNS = {
     "noroom": ("routines/noroom.c", "--memory", "8", "--input", "floors=3"),
     "take": ("routines/take.c", "--register", "live=2,7,12,0"),
     "takeshort": ("routines/takeshort.c", "--register", "live=2,7,12,0"),
+    "keep": ("routines/keep.c", "--edition", "2"),
 }
 REFUSED = ("routines/nocast.txt",)
 

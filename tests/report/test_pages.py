@@ -9,6 +9,7 @@ from routines import LARGE, REFUSED, RUNS
 from support import PICTURES, ROOT, by_word, made_page, mavis, memory_of, run_cut, translate
 
 BROWSER = None
+HANDED = "[...document.querySelectorAll('.handed div')].map((pair) => [...pair.children].map((part) => part.textContent))"
 
 
 def setUpModule():
@@ -102,6 +103,7 @@ class Pages(unittest.TestCase):
             "take": "Done: all 6 commands were carried out; stop is 7.",
             "takeshort": "Aborted in line 13: *snapshot wanted 4 words at 8 (block 8), 1 word past the end of block 8; "
             "nothing outside its bounds was touched.",
+            "keep": "Done: all 5 commands were carried out; number is 7.",
         }
         for name, headline in headlines.items():
             with self.subTest(name):
@@ -149,6 +151,19 @@ class Pages(unittest.TestCase):
         page = Reading(BROWSER)
         self.assertEqual((page.failed, page.tagged("wanted"), page.tagged("written")), ("*snapshot", [8, 9, 10], []))
         self.assertEqual(page.bounds, "Not followed: snapshot, bounds [8, 11): block 8.")
+
+    def test_ints_with_bounds(self):
+        """In edition 2 an int is drawn as a pointer is; in edition 1 it is not."""
+        self.opened("keep")
+        page = self.go(3)
+        self.assertEqual({(word, value) for word, value, *_ in page.arrows}, {(1, 4), (3, 7), (5, 6)})
+        self.assertEqual({kind for _, _, kind, *_ in page.arrows}, {"inside"})
+        self.assertEqual(page.bounds, "Followed car, bounds [4, 6): block 4.")
+        self.assertEqual(dict(BROWSER.run(HANDED))["Edition"], "2")
+        path, _ = made_page("keep-edition-1", RUNS["keep"][:1])
+        BROWSER.open(path)
+        self.assertNotIn("Edition", dict(BROWSER.run(HANDED)))
+        self.assertEqual({(word, kind) for word, _, kind, *_ in Reading(BROWSER).arrows}, {(1, "inside"), (2, "unbounded")})
 
     def test_keys_buttons_and_addresses(self):
         self.opened("list", "#step=4")

@@ -14,16 +14,16 @@ from workbench.report.steps import FOLLOWS, steps_of
 from workbench.report.story import Story
 from workbench.routine import routine_of_text
 from workbench.source import Source
-from workbench.table import COPY
+from workbench.table import COPY, EDITIONS
 from workbench.text import read_text
 
 MACHINE = Machine()
 DECLARATIONS = "struct calls { int people; struct calls *next; int floors[3]; };\nstruct calls *p, *s; int *q, **r; int n, m;\n"
 
 
-def stepped(text, memory=4096, inputs=None, registers=(0,)):
+def stepped(text, memory=4096, inputs=None, registers=(0,), edition=1):
     """The routine of a C text, the machine's answer and the steps."""
-    routine = translate("test.c", text)
+    routine = translate("test.c", text, edition)
     call = Call(routine.table.words(), memory, inputs or [0] * len(routine.table.variables), list(registers))
     (answer,) = MACHINE.explain([call])
     return routine, call, answer, steps_of(routine, MACHINE, call, answer)
@@ -109,15 +109,29 @@ class Steps(unittest.TestCase):
 
     def test_only_written_words_change(self):
         for path in sorted((ROOT / "routines").glob("*.c")):
-            routine = translate(path.name, path.read_text())
-            call = Call(routine.table.words(), 4096, [3 * (type == 0) for type in routine.table.variables])
-            (answer,) = MACHINE.explain([call])
-            steps = steps_of(routine, MACHINE, call, answer)
-            for step in steps[1:]:
-                self.assertLessEqual(set(step.changed), set(step.written), path.name)
-            words = {word: state for step in steps for word, state in step.changed.items()}
-            self.assertEqual([words.get(word, (0, 0, 0)) for word in range(answer.unused)], answer.words)
-            self.assertEqual(Regions(routine, MACHINE, call, answer).all[-1].end, steps[-1].unused)
+            for edition in EDITIONS:
+                with self.subTest(path.name, edition=edition):
+                    self.only_written_words_change(translate(path.name, path.read_text(), edition))
+
+    def only_written_words_change(self, routine):
+        call = Call(routine.table.words(), 4096, [3 * (type == 0) for type in routine.table.variables])
+        (answer,) = MACHINE.explain([call])
+        steps = steps_of(routine, MACHINE, call, answer)
+        for step in steps[1:]:
+            self.assertLessEqual(set(step.changed), set(step.written))
+        words = {word: state for step in steps for word, state in step.changed.items()}
+        self.assertEqual([words.get(word, (0, 0, 0)) for word in range(answer.unused)], answer.words)
+        self.assertEqual(Regions(routine, MACHINE, call, answer).all[-1].end, steps[-1].unused)
+
+    def test_editions(self):
+        """What goes through an int is followed in edition 2, and its steps are those of that edition."""
+        statements = "q = malloc(2); n = (int)q; *(int *)(1 + n) = 7;"
+        answer, steps = stepped_statements(statements, edition=2)
+        self.assertEqual((answer.ending, [step.written for step in steps[1:]]), ("done", [[3], [5], [8]]))
+        self.assertEqual(steps[2].changed, {5: (7, 7, 9)})
+        self.assertEqual([(one.word, one.base, one.end) for one in steps[3].followed], [(8, 7, 9)])
+        answer, steps = stepped_statements(statements)
+        self.assertEqual((answer.ending, steps[2].changed, steps[3].followed), ("abort", {5: (7, 0, 0)}, []))
 
     def test_a_full_table_is_asked_but_for_its_last_command(self):
         statements = "q = malloc(4);" + "*q = 1;" * 126
@@ -183,13 +197,17 @@ class Cuts(unittest.TestCase):
 
     def test_probes_pass_the_check(self):
         for path in sorted((ROOT / "routines").glob("*.c")):
-            table = translate(path.name, path.read_text()).table
-            for node, (kind, _, _) in enumerate(table.nodes):
-                for operand in FOLLOWS.get(kind, ()):
-                    cut, _ = probe(table, node, len(table.commands), operand)
-                    self.assertIsNone(MACHINE.check(cut.words()), (path.name, node))
-                if kind == COPY:
-                    self.assertIsNone(MACHINE.check(with_source(table, node, 7).words()), (path.name, node))
+            for edition in EDITIONS:
+                for cut in self.questions(translate(path.name, path.read_text(), edition).table):
+                    self.assertEqual((MACHINE.check(cut.words()), cut.edition), (None, edition), path.name)
+
+    def questions(self, table):
+        """Every table that is made of one to ask what its nodes follow."""
+        for node, (kind, _, _) in enumerate(table.nodes):
+            for operand in FOLLOWS.get(kind, ()):
+                yield probe(table, node, len(table.commands), operand)[0]
+            if kind == COPY:
+                yield with_source(table, node, 7)
 
 
 if __name__ == "__main__":

@@ -35,7 +35,7 @@ def page_texts():
     """Texts of docs/TABLE.md with the output it has for them."""
     found = [(code(row["Text"]), code(row["Output"])) for row in rows("Text", "Output")]
     found += [(code(row["Text"]), code(row["Answer"])) for row in rows("No.", "Condition", "Place", "Text", "Answer")]
-    for heads in ("No.", "Condition", "Place", "Table", "Answer"), ("Table", "Faults", "Answer"):
+    for heads in ("No.", "Condition", "Place", "Table", "Answer"), ("Table", "Faults", "Answer"), ("Table", "Answer", ""):
         found += [(b"9 0 " + code(row["Table"]), code(row["Answer"])) for row in rows(*heads)]
     return found
 
@@ -53,6 +53,7 @@ def numbers(*parts):
 
 EMPTY_TABLE = [0] * 6
 EMPTY_RUN = b"1 0 0 0 0 0 0 0"
+MARK = 2**32 - 1
 
 
 def ints(n):
@@ -75,8 +76,14 @@ GOOD_TEXTS = {
     "64 inputs": numbers(65, 64, list(range(64)), ints(64)),
     "64 inputs and no table": numbers(65, 64, [0] * 64),
     "one input too many for the table": numbers(9, 2, [0] * 2, ints(1)),
-    "2,470 words of table": numbers(1, 0, [0] * 2470),
-    "all that a text can hold": numbers(4096, 64, [0] * 64, ints(64), [0] * 2400),
+    "2,472 words of table": numbers(1, 0, [0] * 2472),
+    "2,472 words of table, marked": numbers(1, 0, MARK, 2, [0] * 2470),
+    "all that a text can hold": numbers(4096, 64, [0] * 64, ints(64), [0] * 2402),
+    "edition 2": numbers(2, 1, 9, MARK, 2, ints(1)),
+    "another edition": numbers(1, 0, MARK, 1, EMPTY_TABLE),
+    "the mark alone": numbers(1, 0, MARK),
+    "the mark and the edition alone": numbers(1, 0, MARK, 2),
+    "the mark twice": numbers(1, 0, MARK, 2, MARK, 2, EMPTY_TABLE),
     "a line for each number": b"1\n0\n" + b"0\n" * 6,
 }
 
@@ -97,8 +104,9 @@ BAD_TEXTS = {
     "2^32 inputs": numbers(1, 2**32, EMPTY_TABLE),
     "2^32 - 1 inputs": numbers(1, 2**32 - 1, EMPTY_TABLE),
     "2^64 inputs": numbers(1, 2**64, EMPTY_TABLE),
-    "2,471 words of table": numbers(1, 0, [0] * 2471),
-    "more than a text can hold": numbers(4096, 64, [0] * 64, ints(64), [0] * 2401),
+    "2,473 words of table": numbers(1, 0, [0] * 2473),
+    "2,473 words of table, marked": numbers(1, 0, MARK, 2, [0] * 2471),
+    "more than a text can hold": numbers(4096, 64, [0] * 64, ints(64), [0] * 2403),
     "much more than a text can hold": numbers(4096, 64, [0] * 100000),
     "2^32": numbers(1, 0, [0] * 5, 2**32),
     "2^32 with leading zeros": b"1 0 0 0 0 0 0 00000000004294967296",

@@ -78,8 +78,8 @@ class Astray(Expressions):
         return self.element(pointer._replace(of=self.free(pointer)), lambda: self.number(by, 1), by)
 
     def loose_pointer(self):
-        """A variable without bounds: a null pointer, or an int made into a pointer. An int stored over a pointer leaves the
-        bounds, and could be followed."""
+        """A variable without bounds: a null pointer, or an int made into a pointer. In edition 1 an int stored over a pointer leaves
+        the bounds, and could be followed."""
         loose = [variable for variable in self.memory.variables if variable.type != INT and variable.bounds[0] is None]
         if not loose:
             raise Undefined

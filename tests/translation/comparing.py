@@ -42,8 +42,8 @@ class Comparison:
     def by_machine(self, routine, result):
         if isinstance(result, proved.Refused):
             return [str(result)]
-        (starts, unused), answer = result
-        return judge.against_machine(routine, starts, unused, answer)
+        (starts, unused), answer, other = result
+        return judge.against_machine(routine, starts, unused, answer) + judge.between_editions(answer, other)
 
     def by_native(self, routine, objects):
         if objects is None:
@@ -95,7 +95,7 @@ def description(seed, number, routine, lines):
     again = f"tests/translation/compare --seed {seed} --first {number} --count 1"
     return "\n".join(
         [
-            f"routine {number} of seed {seed} differs ({again}), cut off after the statement that shows it:",
+            f"routine {number} of seed {seed}, in edition {routine.edition}, differs ({again}), cut off after the statement that shows it:",
             "",
             routine.for_translation(),
             "called with " + (", ".join(given) or "nothing"),

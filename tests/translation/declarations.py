@@ -158,7 +158,7 @@ class Declarations(Expressions):
             if words:
                 register = Object(words)
                 self.memory.registers.append(register)
-                model.assign(model.variable(variable), model.at_start(variable.type, register))
+                self.rules.assign(model.variable(variable), model.at_start(variable.type, register))
 
     def register_length(self, target):
         size = model.size_of(target)

@@ -37,8 +37,8 @@ def is_live_word(object, offset):
 
 
 class Expressions(Writer):
-    def __init__(self, random, memory, records, room):
-        super().__init__(random)
+    def __init__(self, random, rules, memory, records, room):
+        super().__init__(random, rules)
         self.memory, self.records = memory, records
         self.room = room  # words that may still be allocated
         self.blocks_before = 0  # blocks at the start of the statement
@@ -93,6 +93,8 @@ class Expressions(Writer):
         return self.random.randrange(1000 if way < 0.87 else WRAP)
 
     def int_value(self, depth):
+        if self.rules.ints_have_bounds and depth > 0 and self.chance(0.1):
+            return self.leading_int(depth)
         way = self.random.random()
         if depth <= 0 or way < 0.2:
             return self.constant(self.any_number())
@@ -134,6 +136,18 @@ class Expressions(Writer):
     def known_int(self, depth):
         term = self.int_value(depth)
         if not isinstance(term.of.word, int):
+            raise Undefined
+        return term
+
+    def leading_int(self, depth):
+        """An int that can be followed when it is a pointer again: one in memory, or else a pointer as an int."""
+        held = self.attempt(self.sooner_or_later, self.held_int, depth) if self.chance(0.7) else None
+        return self.cast(self.pointer(depth - 1), INT) if held is None else held
+
+    def held_int(self, depth):
+        named = [object for object in self.memory.variables if object.type == INT and is_live_word(object, 0)]
+        term = self.read(self.name(self.random.choice(named)) if named and self.chance(0.6) else self.place_of(INT, depth))
+        if not is_live(term.of):
             raise Undefined
         return term
 
@@ -247,6 +261,8 @@ class Expressions(Writer):
         return term
 
     def some_pointer(self, depth):
+        if self.rules.ints_have_bounds and depth > 0 and self.chance(0.08):
+            return self.cast(self.leading_int(depth), self.any_pointer_type())
         way = self.random.random()
         if depth <= 0 or way < 0.55:
             deep = self.attempt(self.deep_place, depth) if depth > 0 and self.chance(0.7) else None

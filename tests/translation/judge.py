@@ -61,6 +61,17 @@ def against_machine(routine, starts, unused, answer):
     return differences
 
 
+def between_editions(answer, other):
+    """What differs between a routine's answer and that in the other edition. One that is done there too leaves the same values; it may abort
+    there, but it asks for no other memory."""
+    if answer.ending != "done" or other.ending == "abort":
+        return []
+    if other.ending != "done":
+        return [f"the machine ended with {other.ending} in the other edition"]
+    values = [[value for value, _, _ in each.words] for each in (answer, other)]
+    return [] if values[0] == values[1] else ["the machine leaves other values in the other edition"]
+
+
 def told(routine, place, offset):
     """A word, by a name for people."""
     memory = routine.memory

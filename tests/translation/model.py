@@ -129,34 +129,46 @@ def address(place):
     return Value(Pointer(place.type), Address(place.object, place.offset), place.bounds)
 
 
-def read(place):
-    bounds = None if place.type == INT else place.object.bounds[place.offset]
-    return Value(place.type, place.object.values[place.offset], bounds)
-
-
-def add(left, right):
-    """A sum; right is an int."""
+def sum_of(left, right):
+    """The word of a sum; right is an int."""
     if left.type == INT:
         numbers = isinstance(left.word, int) and isinstance(right.word, int)
-        return Value(INT, (left.word + right.word) % WRAP if numbers else UNKNOWN)
+        return (left.word + right.word) % WRAP if numbers else UNKNOWN
     if not is_address(left) or not isinstance(right.word, int) or left.type.target == VOID:
         raise Undefined
     object = left.word.object
     offset = left.word.offset + signed(right.word) * size_of(left.type.target)
     if not 0 <= offset <= len(object.values):
         raise Undefined
-    return Value(left.type, Address(object, offset), left.bounds)
+    return Address(object, offset)
 
 
-def cast(value, type):
-    keeps = value.type != INT and type != INT
-    return Value(type, value.word, value.bounds if keeps else None)
+class Rules:
+    """The steps that each edition of the cast rule has its own of. In edition 1 an int has no bounds, and one that is stored leaves those of its
+    word; in edition 2 bounds go wherever the value goes, and those of a sum are of the first operand that has any."""
 
+    def __init__(self, edition):
+        self.ints_have_bounds = edition == 2
 
-def assign(place, value):
-    place.object.values[place.offset] = value.word
-    if place.type != INT:
-        place.object.bounds[place.offset] = value.bounds
+    def moves(self, type):
+        """Whether bounds go with a word of this type."""
+        return self.ints_have_bounds or type != INT
+
+    def read(self, place):
+        bounds = place.object.bounds[place.offset] if self.moves(place.type) else None
+        return Value(place.type, place.object.values[place.offset], bounds)
+
+    def add(self, left, right):
+        bounds = right.bounds if self.ints_have_bounds and left.bounds is None else left.bounds
+        return Value(left.type, sum_of(left, right), bounds)
+
+    def cast(self, value, type):
+        return Value(type, value.word, value.bounds if self.moves(value.type) and self.moves(type) else None)
+
+    def assign(self, place, value):
+        place.object.values[place.offset] = value.word
+        if self.moves(place.type):
+            place.object.bounds[place.offset] = value.bounds
 
 
 def overlap(to, source):

@@ -1,6 +1,7 @@
 """Routines as the workbench has them: translated to tables, and run by the proved machine."""
 
 import sys
+from dataclasses import replace
 
 import judge
 
@@ -24,17 +25,18 @@ class Workbench:
         self.machine.built = True  # comparing.build has done that
 
     def run(self, routines):
-        """For each routine the layout of its memory and the machine's answer, or a Refused."""
+        """For each routine the layout of its memory and the machine's answers, in its own edition and in the other one; or a Refused."""
         results = [self.called(routine) for routine in routines]
-        calls = [result for result in results if not isinstance(result, Refused)]
-        answers = iter(self.machine.explain([call for _, call in calls]))
-        return [result if isinstance(result, Refused) else (result[0], next(answers)) for result in results]
+        calls = [call for result in results if not isinstance(result, Refused) for call in result[1:]]
+        answers = iter(self.machine.explain(calls))
+        return [result if isinstance(result, Refused) else (result[0], next(answers), next(answers)) for result in results]
 
     def called(self, routine):
         try:
-            translated = self.translate("routine.c", routine.for_translation())
-            order = list(translated.names.variables)
-            return self.call(routine, translated.table.words(), order)
+            translated = self.translate("routine.c", routine.for_translation(), routine.edition)
+            order, table = list(translated.names.variables), translated.table
+            layout, call = self.call(routine, table.words(), order)
+            return layout, call, replace(call, table=replace(table, edition=3 - routine.edition).words())
         except self.faulty as fault:
             return Refused(f"refused: {fault}")
         except Exception as fault:  # a mistake in the translator is a difference like any other

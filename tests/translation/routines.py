@@ -18,7 +18,8 @@ ROOM, LARGE_ROOM = 300, 12000  # words of memory
 class Routine:
     """The parts of its text, what it is called with, and the memory as the model has it at the end."""
 
-    def __init__(self):
+    def __init__(self, edition):
+        self.edition = edition
         self.name = "routine"
         self.records = []
         self.outside = []  # declarations at file scope, in order
@@ -50,10 +51,10 @@ class Routine:
 class Maker(Declarations, Astray):
     """Makes one routine, statement by statement, and keeps the model's memory in step."""
 
-    def __init__(self, random, most):
-        self.routine = Routine()
+    def __init__(self, random, edition, most):
+        self.routine = Routine(edition)
         room = LARGE_ROOM if random.random() < 0.02 else ROOM
-        super().__init__(random, self.routine.memory, self.routine.records, room)
+        super().__init__(random, model.Rules(edition), self.routine.memory, self.routine.records, room)
         self.nodes = 0
         if self.chance(0.2):
             self.routine.layout = random.random()
@@ -77,7 +78,7 @@ class Maker(Declarations, Astray):
     def done(self, place, value, nodes):
         """The assignment itself; nothing raises Undefined after it."""
         self.count(nodes)
-        model.assign(place, value)
+        self.rules.assign(place, value)
 
     def count(self, nodes):
         """One command more, of so many nodes."""
@@ -142,21 +143,21 @@ class Maker(Declarations, Astray):
         place = self.changed_place()
         sign = self.pick("++", "--")
         by = Value(INT, 1 if sign == "++" else WRAP - 1)
-        self.done(place.of, model.add(model.read(place.of), by), 2 * place.nodes + 3)
+        self.done(place.of, self.rules.add(self.rules.read(place.of), by), 2 * place.nodes + 3)
         if self.chance(0.7):
             return self.at(place, POSTFIX) + sign + ";"
         return sign + self.at(place, UNARY) + ";"
 
     def compound(self):
         place = self.changed_place()
-        old = model.read(place.of)
+        old = self.rules.read(place.of)
         less = self.chance(0.4)
         if place.of.type != INT:
             right = self.step_for(old, less)
         else:
             right = self.constant_sum(self.any_number()) if less else self.int_value(self.pick(0, 1, 2))
         by = Value(INT, -right.of.word % WRAP) if less else right.of
-        self.done(place.of, model.add(old, by), 2 * place.nodes + right.nodes + 2)
+        self.done(place.of, self.rules.add(old, by), 2 * place.nodes + right.nodes + 2)
         return f'{place.text} {"-" if less else "+"}= {right.text};'
 
     def step_for(self, pointer, less):
@@ -199,5 +200,6 @@ class Maker(Declarations, Astray):
 
 
 def make(seed, number, most=STATEMENTS[1]):
-    """Routine NUMBER of SEED; most cuts it off after so many statements, for a shorter example of the same difference."""
-    return Maker(randomness.Random(f"{seed} {number}"), most).routine
+    """Routine NUMBER of SEED, those of odd numbers in edition 2; most cuts it off after so many statements, for a shorter example of the same
+    difference."""
+    return Maker(randomness.Random(f"{seed} {number}"), 1 + number % 2, most).routine

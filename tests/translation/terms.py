@@ -24,8 +24,8 @@ class Term(NamedTuple):
 
 
 class Writer:
-    def __init__(self, random):
-        self.random = random
+    def __init__(self, random, rules):
+        self.random, self.rules = random, rules
 
     def chance(self, part):
         return self.random.random() < part
@@ -84,7 +84,7 @@ class Writer:
         text = f"{self.at(pointer, POSTFIX)}[{number.text}]"
         if self.chance(0.04):
             text = f"{self.at(number, POSTFIX)}[{pointer.text}]"  # C's index goes both ways
-        return Term(text, POSTFIX, pointer.nodes + number.nodes + 2, model.follow(model.add(pointer.of, number.of)))
+        return Term(text, POSTFIX, pointer.nodes + number.nodes + 2, model.follow(self.rules.add(pointer.of, number.of)))
 
     def arrow(self, pointer, field):
         text = f"{self.at(pointer, POSTFIX)}->{field.name}"
@@ -101,25 +101,25 @@ class Writer:
         return Term(array.text, array.rank, array.nodes + 1, model.address(array.of))
 
     def read(self, place):
-        return Term(place.text, place.rank, place.nodes + 1, model.read(place.of))
+        return Term(place.text, place.rank, place.nodes + 1, self.rules.read(place.of))
 
     def plus(self, left, right):
         """Either side may be the pointer."""
         text = f"{self.at(left, ADDITIVE)} + {self.at(right, UNARY)}"
         pair = (right.of, left.of) if right.of.type != INT else (left.of, right.of)
-        return Term(text, ADDITIVE, left.nodes + right.nodes + 1, model.add(*pair))
+        return Term(text, ADDITIVE, left.nodes + right.nodes + 1, self.rules.add(*pair))
 
     def minus(self, left, constant):
         text = f"{self.at(left, ADDITIVE)} - {self.at(constant, UNARY)}"
         less = Value(INT, -constant.of.word % WRAP)
-        return Term(text, ADDITIVE, left.nodes + constant.nodes + 1, model.add(left.of, less))
+        return Term(text, ADDITIVE, left.nodes + constant.nodes + 1, self.rules.add(left.of, less))
 
     def cast(self, term, type):
-        return Term(f"({self.type(type)}){self.at(term, UNARY)}", UNARY, term.nodes + 1, model.cast(term.of, type))
+        return Term(f"({self.type(type)}){self.at(term, UNARY)}", UNARY, term.nodes + 1, self.rules.cast(term.of, type))
 
     def converted(self, term, type):
         """What C converts by itself, from or to a pointer to void, or from the constant 0: the text stays."""
-        return Term(term.text, term.rank, term.nodes + 1, model.cast(term.of, type))
+        return Term(term.text, term.rank, term.nodes + 1, self.rules.cast(term.of, type))
 
     # Several ways to one meaning. A number is a function here: what is not written must not be worked out either.
 

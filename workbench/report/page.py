@@ -36,6 +36,7 @@ def run_page(routine, machine, call, answer):
         "\n".join(ending.lines()),
         handed_in(routine, call),
         data,
+        "a pointer, or from an int with bounds," if routine.table.ints_have_bounds else "a pointer",
     )
 
 
@@ -109,10 +110,12 @@ def failure(answer, story):
 
 
 def handed_in(routine, call):
-    """What the run was called with, as pairs of words and text."""
+    """What the run was called with, as pairs of words and text; and the edition of the table, unless it is 1."""
     told = [("Memory", counted(call.memory, "word"))]
     if routine is None:
         return told
+    if routine.table.is_marked:
+        told.insert(0, ("Edition", str(routine.table.edition)))
     names = routine.names.variables
     inputs = [f"{name} = {value}" for name, value in zip(names, call.inputs) if value]
     at = 1
@@ -136,8 +139,9 @@ EXPLANATION = """<section class="explanation" aria-labelledby="explanation-headi
 """
 
 
-def page(name, ending, headline, source, explanation, handed, data=None):
-    """The page put together: nothing in it comes from elsewhere. It is plain ASCII, so that no encoding spoils it."""
+def page(name, ending, headline, source, explanation, handed, data=None, leading=""):
+    """The page put together: nothing in it comes from elsewhere. It is plain ASCII, so that no encoding spoils it. `leading` is what arrows lead
+    from."""
     explained = EXPLANATION.format(html.escape(explanation))
     word = {"done": "Done", "abort": "Abort", "noroom": "No room", "refused": "Refused"}
     parts = {
@@ -153,6 +157,7 @@ def page(name, ending, headline, source, explanation, handed, data=None):
         "late": explained if data else "",
         "handed": "".join(f"<div><dt>{html.escape(term)}</dt><dd>{html.escape(text)}</dd></div>" for term, text in handed),
         "steps": "" if data else "hidden",
+        "leading": leading,
         # `<` is written as its number, so that nothing in the data can end the element that it stands in.
         "data": json.dumps(data, separators=(",", ":")).replace("<", "\\u003c"),
         "style": (PAGE / "page.css").read_text(),

@@ -2,8 +2,8 @@
 
 import copy
 
-from ..memory import FOLDED, grouped, note
-from ..table import INT, RECORD
+from ..memory import FOLDED, grouped, leads, note
+from ..table import RECORD
 
 ALL_SHOWN = 64  # a group, or a copy, of so many words is shown word by word, but for clear ones
 NO_ARROW, INSIDE, OUTSIDE, UNBOUNDED = range(4)
@@ -113,8 +113,8 @@ class Group:
 
 
 def arrow(regions, type, value, base, end):
-    """Whether a word is drawn as a pointer, and how it stands to its bounds."""
-    if type == INT or (type is None and not end) or regions.of(value) is None:
+    """Whether a word has an arrow, and how it stands to its bounds."""
+    if not leads(regions, type, end) or regions.of(value) is None:
         return NO_ARROW
     if not end:
         return UNBOUNDED
