@@ -10,7 +10,7 @@ use borrow.Author.Tests.{lt-ltb, lt-leb, ne-eqb}
 use lib.Dec.{leb·suc-suc, eqb}
 use lib.ListN.{length, getD, List·getD-map}
 use Rattle.semantics.specs.Words.{Words, word, sum-below, grow}
-use Rattle.semantics.specs.Table.{edition, edition-1, edition-mark, records, fields, pointers, variables, nodes, commands, count-place, count, item-place, item, known-type, known-target, target, points-to-type, points-to-record, pointed-record, entry-below, field-total, first-field, field-type, field-count, field-offset, size-of, Kind, variable, deref, field, constant, sum, read, address, cast, size, malloc, copy, unknown, Operand, unused, variable-number, field-number, any-word, type-word, target-word, place-child, value-child, node-kind, node-a, node-b, children, type-by-kind, type-rule, types-below, node-type}
+use Rattle.semantics.specs.Table.{edition, edition-1, edition-mark, records, count-place, count, item-place, item, known-type, known-target, target, points-to-type, points-to-record, pointed-record, entry-below, field-total, first-field, field-type, field-count, field-offset, size-of, Kind, variable, deref, field, constant, sum, read, address, cast, size, malloc, copy, unknown, Operand, unused, variable-number, field-number, any-word, type-word, target-word, place-child, value-child, node-kind, node-a, node-b, children, type-by-kind, type-rule, types-below, node-type}
 use Rattle.semantics.specs.Check.{Verdict, passes, refused, _or-else_, require, each, edition-fault, section-fault, words-over, record-fault, field-sum-fault, field-fault, pointer-fault, variable-fault, is-child, operand-fault, types-fit, node-fault, command-place, command-value, command-fault, uses, use-fault, check, lengths-fit, input-fits, input-fault, arguments-fault, names-pointer, name-fault, registers-fault, call-fault}
 use Rattle.semantics.specs.Syntax.{Place, Variable, Deref, Field, NoPlace, Value, Number, Sum, Read, Address, Cast, Malloc, Copy, NoValue, Tree, place, value, senseless, as-place, as-value, step-of, tree-by-kind, tree-rule, trees-below, tree-of, place-of, value-of}
 use Rattle.semantics.specs.Rules.{assign}
@@ -60,32 +60,14 @@ pub second-mark : (t : Words) → check (marked (edition-mark ∷ t)) ≡ refuse
 unfolding check require _or-else_
 second-mark t = rw (edition-asked (edition-mark ∷ t) 2, first-refusal 5 _ (mark-as-count t))
 
--- "Tables without the mark run as they did": their sections start at word 0, and 16 is not given.
 pub unmarked : (t : Words) → (word t 0 ≡ edition-mark → ⊥) → edition t ≡ edition-1
 unfolding edition
 unmarked t other = rw (ne-eqb (word t 0) edition-mark other)
 
-pub unmarked-start : (t : Words) → edition t ≡ edition-1 → count-place t 0 ≡ 0
-unfolding count-place
-unmarked-start t first = rw first
-
-unmarked-known : (t : Words) → edition t ≡ edition-1 → edition-fault t ≡ passes
-unfolding edition-fault require
-unmarked-known t first = rw first
-
-pub check-of-unmarked : (t : Words) → edition t ≡ edition-1 → check t
-    ≡ each 6 (section-fault t)
-    or-else words-over t
-    or-else each (count t records) (record-fault t)
-    or-else field-sum-fault t
-    or-else each (count t fields) (field-fault t)
-    or-else each (count t pointers) (pointer-fault t)
-    or-else each (count t variables) (variable-fault t)
-    or-else each (count t nodes) (node-fault t)
-    or-else each (count t commands) (command-fault t)
-    or-else each (count t nodes) (use-fault t)
-unfolding check _or-else_
-check-of-unmarked t first = rw (unmarked-known t first)
+-- "Tables without the mark run as they did": 16 is not given, and the sections start at word 0. All else of the check stands behind these two.
+pub check-of-unmarked : (t : Words) → edition t ≡ edition-1 → (edition-fault t ≡ passes) × (count-place t 0 ≡ 0)
+unfolding edition-fault require count-place
+check-of-unmarked t first = (rw first, rw first)
 
 -- ---- shifted verdicts
 
@@ -247,7 +229,7 @@ module _ (t : Words) (first : edition t ≡ edition-1) where
   -- and the 2".
   pub check-of-marked : check (marked t) ≡ shifted (check t)
   unfolding check require _or-else_
-  check-of-marked = rw (unmarked-known t first, edition-asked t 2) (simp all-parts)
+  check-of-marked = rw (check-of-unmarked t first .0, edition-asked t 2) (simp all-parts)
 
   -- ---- a call's other refusals: their places are not in the table
 

@@ -11,7 +11,7 @@ use lib.ListN.{length}
 use Rattle.semantics.specs.Words.{Words, moved, all-below, if_then_else_}
 use Rattle.semantics.specs.Syntax.{Place, Variable, Deref, Field, NoPlace, Value, Number, Sum, Read, Address, Cast, Malloc, Copy, NoValue}
 use Rattle.semantics.specs.Rules.{Datum, unbounded, block-pointer, Location, Bounds-check, Event, stored, tested, State, noted, Outcome, ok, fails, no-room, no-rule, bind, check-of, checked, pointed-step, deref-step, field-step, touchable, contents, read-step, cast-step, with-block, malloc-step, move-step, copy-step, place-at, value-at, with-datum, assign-step, assign}
-use Rattle.semantics.specs.Log.{Noted, Passes, Comes-by, variable-place, deref-place, field-place, Word-read, pointer-read, int-read, Allocates, no-words, new-block, Moves, Copies, Gives, number-value, sum-value, read-value, address-value, cast-value, malloc-value, copy-value, Word-stored, pointer-stored, int-stored, Assigns, Clear-word, Same-word}
+use Rattle.semantics.specs.Log.{Noted, Passes, Comes-by, variable-place, deref-place, field-place, Word-read, bounds-read, value-read, Allocates, no-words, new-block, Moves, Copies, Gives, number-value, sum-value, read-value, address-value, cast-value, malloc-value, copy-value, Word-stored, bounds-stored, value-stored, Assigns, Clear-word, Same-word}
 use Rattle.semantics.proofs.Tests.{Check-made, check-passed, check-missed, check-made}
 use Rattle.semantics.proofs.Lists.{zeroed-inside, zeroed-outside, moved-length, moved-inside, moved-outside}
 
@@ -97,8 +97,8 @@ places-are-come-by NoPlace s l s′ e = absurd (no-rule-not e)
 -- ---- values
 
 word-read : (pointer : Bool) (s : State) (w : ℕ) → Word-read s w (contents pointer s w) pointer
-word-read true s w = pointer-read refl refl refl
-word-read false s w = int-read refl refl refl
+word-read true s w = bounds-read refl refl refl
+word-read false s w = value-read refl refl refl
 
 read-gives : {n : ℕ} (pointer : Bool) (p : Place) (s : State) {d : Datum} {s′ : State} → Both (place-at p s) (read-step pointer) d s′
     → Gives s d s′ (Read n pointer p)
@@ -192,8 +192,8 @@ values-have-their-events NoValue s d s′ e = absurd (no-rule-not e)
 -- ---- a command
 
 word-stored : (pointer : Bool) (e : Event) (s : State) (w : ℕ) (x : Datum) → Word-stored s w x (noted e (with-datum pointer w x s)) pointer
-word-stored true e s w x = pointer-stored refl refl refl
-word-stored false e s w x = int-stored refl refl refl
+word-stored true e s w x = bounds-stored refl refl refl
+word-stored false e s w x = value-stored refl refl refl
 
 unused-kept : (pointer : Bool) (w : ℕ) (x : Datum) (s : State) → with-datum pointer w x s .unused ≡ s .unused
 unused-kept true w x s = refl

@@ -93,10 +93,10 @@ pub data Comes-by (s : State) (l : Location) (s′ : State) : Place → Type 0 w
   -- "The place is w with bounds [w, w + k)."
   field-place : {n offset k : ℕ} {v : Value} → Followed-to n v offset k s l s′ → l .base ≡ l .at → l .end ≡ l .at + k → Comes-by s l s′ (Field n offset k v)
 
--- "Read: a pointer type gives value, base and end of the word; int gives the value without bounds"
+-- "Read: a pointer type gives value, base and end of the word; int gives the value without bounds"; in edition 2 every type gives all three.
 pub data Word-read (s : State) (w : ℕ) (d : Datum) : Bool → Type 0 where
-  pointer-read : d .value ≡ word (s .values) w → d .base ≡ word (s .bases) w → d .end ≡ word (s .ends) w → Word-read s w d true
-  int-read : d .value ≡ word (s .values) w → d .base ≡ 0 → d .end ≡ 0 → Word-read s w d false
+  bounds-read : d .value ≡ word (s .values) w → d .base ≡ word (s .bases) w → d .end ≡ word (s .ends) w → Word-read s w d true
+  value-read : d .value ≡ word (s .values) w → d .base ≡ 0 → d .end ≡ 0 → Word-read s w d false
 
 -- Value, base and end of word w are 0.
 pub record Clear-word (w : ℕ) (s : State) : Type 0 where
@@ -152,21 +152,22 @@ pub data Gives (s : State) (d : Datum) (s′ : State) : Value → Type 0 where
   malloc-value : {n : ℕ} {v : Value} (x : Datum) (s₁ : State) → value-at v s ≡ ok x s₁ → Allocates (x .value) s₁ d s′ → Gives s d s′ (Malloc n v)
   copy-value : {n k : ℕ} {a b : Value} (p q : Datum) (s₁ : State) → Operands a b s p q s₁ → Copies n k p q s₁ d s′ → Gives s d s′ (Copy n k a b)
 
--- "Assign: a pointer type stores value, base and end; int stores the value only, and the word's base and end stay."
+-- "Assign: a pointer type stores value, base and end; int stores the value only, and the word's base and end stay"; in edition 2 every type stores all
+-- three.
 pub data Word-stored (s : State) (w : ℕ) (x : Datum) (s′ : State) : Bool → Type 0 where
-  pointer-stored : s′ .values ≡ set (s .values) w (x .value) → s′ .bases ≡ set (s .bases) w (x .base) → s′ .ends ≡ set (s .ends) w (x .end)
+  bounds-stored : s′ .values ≡ set (s .values) w (x .value) → s′ .bases ≡ set (s .bases) w (x .base) → s′ .ends ≡ set (s .ends) w (x .end)
       → Word-stored s w x s′ true
-  int-stored : s′ .values ≡ set (s .values) w (x .value) → s′ .bases ≡ s .bases → s′ .ends ≡ s .ends → Word-stored s w x s′ false
+  value-stored : s′ .values ≡ set (s .values) w (x .value) → s′ .bases ≡ s .bases → s′ .ends ≡ s .ends → Word-stored s w x s′ false
 
 -- A command that is done: "a command's place before its value". "The routine .. writes one at an assign": one event, with the place's access.
-pub record Assigns (pointer : Bool) (p : Place) (v : Value) (s s′ : State) : Type 0 where
+pub record Assigns (bounds : Bool) (p : Place) (v : Value) (s s′ : State) : Type 0 where
   pub l : Location
   pub s₁ : State
   pub place : place-at p s ≡ ok l s₁
   pub x : Datum
   pub s₂ : State
   pub value : value-at v s₁ ≡ ok x s₂
-  pub memory : Word-stored s₂ (l .at) x s′ pointer
+  pub memory : Word-stored s₂ (l .at) x s′ bounds
   pub unused : s′ .unused ≡ s₂ .unused
   pub log : s′ .log ≡ stored (l .at) (l .access) ∷ s₂ .log
 
