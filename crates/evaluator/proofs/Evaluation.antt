@@ -10,7 +10,7 @@ use Rattle.words.specs.Columns.{column}
 use Rattle.semantics.specs.Words.{Words, word}
 use Rattle.semantics.specs.Table.{Edition, edition-1, edition-2, edition, nodes, count, is-pointer, known-type, known-target, size-of, constant, kind-of, node-kind, node-a, node-b, node-type}
 use Rattle.semantics.specs.Syntax.{value-of, step-of, moves-bounds, keeps-bounds, either-bounds}
-use Rattle.semantics.specs.Rules.{Datum, Location, Event, State, Outcome, ok, fails, no-room, no-rule, unbounded, bind, variable-location, deref-step, field-step, read-step, address-step, cast-step, malloc-step, place-at, value-at}
+use Rattle.semantics.specs.Rules.{Datum, Location, Event, State, Outcome, ok, fails, no-room, no-rule, unbounded, bind, variable-location, deref-step, field-step, read-step, address-step, takes-right, cast-step, malloc-step, place-at, value-at}
 use Rattle.semantics.specs.Safety.{Sound, absent, held}
 use Rattle.semantics.proofs.Ints.{cast-of-int, sum-of-int, sum-of-number}
 use Rattle.semantics.proofs.Invariant.{Inv, sound-later, Datum-ok, Good, good-ok, good-fails, good-no-room}
@@ -275,7 +275,7 @@ module _ {l m m₁ : List Words} {n k a v : ℕ} {s s₁ : Words} (e : k ≡ par
     -- The right operand is a constant: its number is added, and the slots stay.
     pub sum-constant-answer : {i w r : ℕ} → ((t : Words) → Lists t l → d < count t nodes → node-kind t d ≡ constant) → i ≡ part l d 1 → w ≡ i → r ≡ (v + z * w) % 4294967296 → r < failed
         → Value-answered l m n s r m₁ s₁
-    unfolding place-at
+    unfolding place-at takes-right
     sum-constant-answer {i} four x hw hr small =
         record {
           room = child .room;

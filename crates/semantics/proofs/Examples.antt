@@ -9,7 +9,7 @@ use Rattle.semantics.specs.Table.{edition, count-place, count, item-plac
 use Rattle.semantics.specs.Registers.{register-place, register-start}
 use Rattle.semantics.specs.Check.{_or-else_, require, each, edition-fault, section-fault, words-over, record-fault, field-sum-fault, field-fault, pointer-fault, variable-fault, is-child, node-fault, command-fault, uses, use-fault, check, lengths-fit, input-fits, input-fault, arguments-fault, extent-fault, names-pointer, name-fault, room-fault, registers-fault, call-fault}
 use Rattle.semantics.specs.Syntax.{step-of, tree-rule, trees-below, tree-of, place-of, value-of}
-use Rattle.semantics.specs.Rules.{words-left, enough-left, checked, deref-step, field-step, touchable, read-step, malloc-step, each-noted, move-step, copy-step, place-at, value-at, assign-step, assign}
+use Rattle.semantics.specs.Rules.{words-left, enough-left, checked, deref-step, field-step, touchable, read-step, takes-right, malloc-step, each-noted, move-step, copy-step, place-at, value-at, assign-step, assign}
 use Rattle.semantics.specs.Run.{cleared, with-register, registers-below, begin, command, commands-below, run, call}
 use Rattle.semantics.specs.Explain.{without-bounds, reason-of, block-start, first-word, newest-cause, explain}
 use Rattle.semantics.specs.ExampleTables.{judged, answered, Example, observed}
@@ -28,7 +28,7 @@ use Rattle.semantics.proofs.DepthExamples.{measured, depths, judged-bef
 
 -- To unfold this is to unfold every definition that a call comes down to.
 computed : Example → Example
-unfolding observed zeroed words-from moved sum-below any-below all-below seen-before least-below grow edition count-place count item-place item is-pointer known-type known-target target points-to-type points-to-record pointed-record entry-below field-total first-field field-type field-count field-offset size-of kind-of node-kind children type-rule types-below node-type _or-else_ require each edition-fault section-fault words-over record-fault field-sum-fault field-fault pointer-fault variable-fault is-child node-fault command-fault uses use-fault check lengths-fit input-fits input-fault arguments-fault register-place register-start extent-fault names-pointer name-fault room-fault registers-fault call-fault step-of tree-rule trees-below tree-of place-of value-of words-left enough-left checked deref-step field-step touchable read-step malloc-step each-noted move-step copy-step place-at assign-step assign cleared registers-below begin command commands-below run call
+unfolding observed zeroed words-from moved sum-below any-below all-below seen-before least-below grow edition count-place count item-place item is-pointer known-type known-target target points-to-type points-to-record pointed-record entry-below field-total first-field field-type field-count field-offset size-of kind-of node-kind children type-rule types-below node-type _or-else_ require each edition-fault section-fault words-over record-fault field-sum-fault field-fault pointer-fault variable-fault is-child node-fault command-fault uses use-fault check lengths-fit input-fits input-fault arguments-fault register-place register-start extent-fault names-pointer name-fault room-fault registers-fault call-fault step-of tree-rule trees-below tree-of place-of value-of words-left enough-left checked deref-step field-step touchable read-step takes-right malloc-step each-noted move-step copy-step place-at assign-step assign cleared registers-below begin command commands-below run call
 computed x = observed x
 
 -- ---- Document 01's own, registers, and steps along records

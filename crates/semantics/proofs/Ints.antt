@@ -13,7 +13,7 @@ use Rattle.semantics.specs.Words.{Words, word, all-below, if_then_else_}
 use Rattle.semantics.specs.Table.{edition-1, edition-2, Edition, edition, nodes, count, is-pointer, Kind, variable, deref, field, constant, sum, read, address, cast, size, malloc, copy, unknown, value, sort-of, node-kind, node-a, node-b, type-by-kind, type-rule, types-below, node-type}
 use Rattle.semantics.specs.Check.{same-sort, is-child}
 use Rattle.semantics.specs.Syntax.{Place, Value, Number, Sum, Read, Cast, Copy, senseless, as-value, either-bounds, tree-by-kind, tree-rule, trees-below, tree-of, value-of}
-use Rattle.semantics.specs.Rules.{Datum, unbounded, Location, loaded, Bounds-check, State, noted, Outcome, ok, fails, no-room, no-rule, bind, touchable, contents, pointed-step, read-step, sum-step, cast-step, with-copy, move-step, copy-step, place-at, value-at}
+use Rattle.semantics.specs.Rules.{Datum, unbounded, Location, loaded, Bounds-check, State, noted, Outcome, ok, fails, no-room, no-rule, bind, touchable, contents, pointed-step, read-step, takes-right, sum-step, cast-step, with-copy, move-step, copy-step, place-at, value-at}
 use Rattle.semantics.proofs.Passed.{require-passes, Passed}
 use Rattle.semantics.proofs.Trees.{Node-ok, node-ok, is-child-true, types-at, trees-at}
 
@@ -41,6 +41,7 @@ bind-unbounded (no-rule s) f h = unbounded-no-rule
 -- A number has no bounds that a sum could take.
 pub sum-of-number : (either : Bool) (step : ℕ) (p : Datum) → (p .end ≡ 0 → p .base ≡ 0) → (x : ℕ) (s : State)
     → sum-step either step p (unbounded x) s ≡ sum-step false step p (unbounded x) s
+unfolding takes-right
 sum-of-number false step p none x s = refl
 sum-of-number true step p none x s = go (eqb (p .end) 0) refl
   where
@@ -77,6 +78,7 @@ copy-unbounded n k p q s = bind-unbounded (pointed-step n k p s) _ (λ a s′. b
 -- A sum has the bounds of its left operand.
 sum-unbounded : {o : Outcome Datum} (step : ℕ) (right : State → Outcome Datum) → Unbounded o
     → Unbounded (bind o (λ p s. bind (right s) (sum-step false step p)))
+unfolding takes-right
 sum-unbounded step right (unbounded-ok {v = v} {s = s}) = bind-unbounded (right s) (sum-step false step (unbounded v)) (λ x s′. unbounded-ok)
 sum-unbounded step right unbounded-fails = unbounded-fails
 sum-unbounded step right unbounded-no-room = unbounded-no-room

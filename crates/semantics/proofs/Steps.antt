@@ -12,7 +12,7 @@ use lib.ListN.{length, set, length-set}
 use lib.Seq.{getD-set-same, getD-set-other}
 use Rattle.semantics.specs.Words.{Words, word, moved, if_then_else_}
 use Rattle.semantics.specs.Syntax.{Place, Variable, Deref, Field, Value, Number, Sum, Read, Address, Cast, Malloc, Copy}
-use Rattle.semantics.specs.Rules.{Datum, unbounded, block-pointer, Access, Location, Event, loaded, stored, allocated, tested, State, noted, with-values, Outcome, ok, no-room, check-of, words-left, checked, pointed, pointed-step, deref-step, field-step, touchable, contents, read-step, bounds-from, cast-step, with-block, malloc-step, with-copy, move-step, copy-step, place-at, value-at, with-datum, assign-step, assign}
+use Rattle.semantics.specs.Rules.{Datum, unbounded, block-pointer, Access, Location, Event, loaded, stored, allocated, tested, State, noted, with-values, Outcome, ok, no-room, check-of, words-left, checked, pointed, pointed-step, deref-step, field-step, touchable, contents, read-step, takes-right, bounds-from, cast-step, with-block, malloc-step, with-copy, move-step, copy-step, place-at, value-at, with-datum, assign-step, assign}
 use Rattle.semantics.specs.Safety.{variable, block, Held, Permitted, by-name, by-pointer, Allowed, Sound, absent, held}
 use Rattle.semantics.specs.Log.{Unwritten, Same-word}
 use Rattle.semantics.proofs.Tests.{and-both, Lies, inside as among, outside, lies, words-are-left, left-inside, check-enough, Check-made, check-passed, check-missed, check-made}
@@ -203,13 +203,12 @@ read-good {vars} {len} pointer l s inv good =
     kept true = record { sound = sound-later (tail (loaded (l .at) (l .access))) (inv .sound (l .at)) }
     kept false = record { sound = absent refl refl }
 
--- A sum has its bounds from one of its operands, whichever the edition says.
+-- A sum has its bounds from one of its operands, whatever is asked of them.
 sum-sound : {vars : ℕ} {log : List Event} (either : Bool) (p x : Datum) → Sound vars log (p .base) (p .end) → Sound vars log (x .base) (x .end)
     → Sound vars log (bounds-from either p x .base) (bounds-from either p x .end)
-sum-sound false p x left right = left
-sum-sound {vars} {log} true p x left right = go (eqb (p .end) 0)
+sum-sound {vars} {log} either p x left right = go (takes-right either p x)
   where
-    go : (none : Bool) → Sound vars log ((if none then x else p) .base) ((if none then x else p) .end)
+    go : (b : Bool) → Sound vars log ((if b then x else p) .base) ((if b then x else p) .end)
     go true = right
     go false = left
 

@@ -132,9 +132,11 @@ abbrev pub address-step : Location → State → Outcome Datum
 address-step l s = ok (record { value = l .at; base = l .base; end = l .end }) s
 
 -- The operand that a sum has its bounds from: the left one; in edition 2 "the left bounds if the left end isn't 0, else the right ones".
+unfoldable pub takes-right : Bool → (left right : Datum) → Bool
+takes-right either p x = either && eqb (p .end) 0
+
 abbrev pub bounds-from : Bool → (left right : Datum) → Datum
-bounds-from false p x = p
-bounds-from true p x = if eqb (p .end) 0 then x else p
+bounds-from either p x = if takes-right either p x then x else p
 
 -- "Sum: modulo 4,294,967,296. A sum of a pointer and a number moves the pointer .. and keeps its bounds." Request 2: by "that number
 -- times the record's size, modulo 4,294,967,296"

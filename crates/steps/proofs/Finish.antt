@@ -11,7 +11,7 @@ use lib.ListN.{length}
 use Rattle.words.specs.Columns.{column}
 use Rattle.semantics.specs.Words.{Words, word}
 use Rattle.semantics.specs.Table.{is-pointer}
-use Rattle.semantics.specs.Rules.{Datum, unbounded, Location, variable-location, Event, loaded, stored, allocated, tested, State, Outcome, ok, bind, words-left, enough-left, check-of, checked, pointed, deref-step, field-step, touchable, contents, read-step, bounds-from, sum-step, cast-step, malloc-step, with-copy, copy-step}
+use Rattle.semantics.specs.Rules.{Datum, unbounded, Location, variable-location, Event, loaded, stored, allocated, tested, State, Outcome, ok, bind, words-left, enough-left, check-of, checked, pointed, deref-step, field-step, touchable, contents, read-step, takes-right, bounds-from, sum-step, cast-step, malloc-step, with-copy, copy-step}
 use Rattle.semantics.specs.Explain.{block-start}
 use Rattle.semantics.proofs.Tests.{words-are-left, left-inside, check-enough}
 use Rattle.semantics.proofs.Invariant.{Inv, permitted-used, Location-ok, Good, good-ok}
@@ -158,9 +158,11 @@ abbrev pub Chosen : Datum → Words → Words → Type 0
 Chosen p s s′ = (x : Datum) → x .base ≡ word s base-slot → x .end ≡ word s end-slot → Bounded (bounds-from true p x .base) (bounds-from true p x .end) s s′
 
 pub chosen-left : {b e : ℕ} {s s′ : Words} (p : Datum) → p .base ≡ b → p .end ≡ e → (e ≡ 0 → ⊥) → Bounded b e s s′ → Chosen p s s′
+unfolding takes-right
 chosen-left {e = e} p hb he some set x xb xe = rw (he, ne-eqb e 0 some, hb) set
 
 pub chosen-right : {b e : ℕ} {s : Words} (p : Datum) → p .base ≡ b → p .end ≡ e → e ≡ 0 → length s ≡ slots → Chosen p s s
+unfolding takes-right
 chosen-right {e = e} {s = s} p hb he none room x xb xe =
     rw (he, eq-eqb e 0 none) (record { room = room; base = sym xb; end = sym xe; kept = all-kept s })
 
