@@ -2,7 +2,7 @@
    mavistable_check and mavistable_run are in libcapi.a, mavistable_explain is in libcapi_explain.a; either links without the other.
    All calls work on any words, allocate nothing, keep no state and may run on several threads.
    Stack: 6 KiB are enough for mavistable_check, 44 KiB for mavistable_run and 46 KiB for mavistable_explain, whatever the table. On x86-64 they took
-   5,624, 44,080 and 46,416 bytes at the deepest tables. A run has at most one call open for each node on a path downwards, and no path has more
+   5,640, 44,080 and 46,432 bytes at the deepest tables. A run has at most one call open for each node on a path downwards, and no path has more
    than 512 nodes: there are no more, and a node's children have smaller numbers than it has. */
 #ifndef MAVISTABLE_H
 #define MAVISTABLE_H
