@@ -24,3 +24,4 @@ pub mod Causes
 pub mod Explain
 pub mod Before
 pub mod Editions
+pub mod Agreement

@@ -21,7 +21,7 @@ use Rattle.semantics.proofs.Blocks.{No-block, loaded-no-block, stored-n
 use Rattle.semantics.proofs.Places.{log-kept}
 use Rattle.semantics.proofs.Invariant.{Inv, Within, Later, now, held-later, sound-later, permitted-used, Datum-ok, Location-ok, permitted-later, location-later, Good, good-ok, good-fails, good-no-room, bind-good}
 
-touchable-true : {vars len w : ℕ} {s : State} {a : Access} → Inv vars len s → Permitted vars (s .log) w a → touchable s w ≡ true
+pub touchable-true : {vars len w : ℕ} {s : State} {a : Access} → Inv vars len s → Permitted vars (s .log) w a → touchable s w ≡ true
 unfolding touchable
 touchable-true {w = w} {s = s} inv h =
     let used = permitted-used inv h in
@@ -241,16 +241,16 @@ copy-older : (k : ℕ) (a b : Location) (s : State) → Within (s .log) (with-co
 copy-older k a b s e h = each-older (λ i. stored (a .at + i) (a .access)) k e (each-older (λ i. loaded (b .at + i) (b .access)) k e h)
 
 -- A place from which on k words may be touched.
-record Words-ok (vars k : ℕ) (l : Location) (s : State) : Type 0 where
-  each : (i : ℕ) → i < k → Permitted vars (s .log) (l .at + i) (l .access)
+pub record Words-ok (vars k : ℕ) (l : Location) (s : State) : Type 0 where
+  pub each : (i : ℕ) → i < k → Permitted vars (s .log) (l .at + i) (l .access)
 
-words-later : {vars k : ℕ} {l : Location} {s s′ : State} → Within (s .log) (s′ .log) → Words-ok vars k l s → Words-ok vars k l s′
+pub words-later : {vars k : ℕ} {l : Location} {s s′ : State} → Within (s .log) (s′ .log) → Words-ok vars k l s → Words-ok vars k l s′
 words-later more h = record { each = λ i less. permitted-later more (h .each i less) }
 
 held-words : {vars k : ℕ} {p : Datum} {s : State} → Held vars (s .log) (p .base) (p .end) → p .base ≤ p .value → p .value + k ≤ p .end → Words-ok vars k (pointed p) s
 held-words {p = p} h from upto = record { each = λ i less. by-pointer {p = p} (omega arith) (omega arith) h }
 
-pointed-good : {vars len : ℕ} (n k : ℕ) (p : Datum) (s : State) → 1 ≤ k → Inv vars len s → Datum-ok vars p s → Good vars len s (Words-ok vars k) (pointed-step n k p s)
+pub pointed-good : {vars len : ℕ} (n k : ℕ) (p : Datum) (s : State) → 1 ≤ k → Inv vars len s → Datum-ok vars p s → Good vars len s (Words-ok vars k) (pointed-step n k p s)
 pointed-good n k p s some inv good =
     checked-good n p (p .value) k _ some inv good (λ from upto h. held-words h from upto)
 
@@ -312,7 +312,7 @@ copy-later k a b s = record { more = copy-older k a b s; kept = λ w h. kept w h
         }
 
 -- Words that may be read and assigned move.
-move-done : {vars len k : ℕ} {a b : Location} {s : State} → Inv vars len s → Words-ok vars k a s → Words-ok vars k b s
+pub move-done : {vars len k : ℕ} {a b : Location} {s : State} → Inv vars len s → Words-ok vars k a s → Words-ok vars k b s
     → move-step k a b s ≡ ok (unbounded k) (with-copy k a b s)
 unfolding move-step
 move-done {k = k} inv to from =

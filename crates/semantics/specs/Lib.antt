@@ -1,5 +1,6 @@
 -- Document 01 as definitions, in its order: the table, what is turned away, syntax trees, the steps, a whole call, the fence rule. The
--- registers that request 1 adds stand after the table; the explanations that request 4 asks for, after the fence rule and the log.
+-- registers that request 1 adds stand after the table; the explanations that request 4 asks for, after the fence rule and the log;
+-- request 9's bare run and its agreement with the fenced one, last.
 pub mod Words
 pub mod Table
 pub mod Registers
@@ -10,6 +11,8 @@ pub mod Run
 pub mod Safety
 pub mod Log
 pub mod Explain
+pub mod Bare
+pub mod Agreement
 pub mod ExampleTables
 pub mod Examples
 pub mod RefusalExamples
