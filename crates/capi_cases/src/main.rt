@@ -1,5 +1,5 @@
-// Makes the three calls for C on recorded cases, and prints every number of their structs and every word of the three lists, after the run and after
-// the call that explains. A case is `CALL LIGHT LV LB LE LK NI i.. NR r.. NT t..`, as `replay` has it; CALL, LIGHT and LK are not looked at, and
+// Makes the four calls for C on recorded cases, and prints every number of their structs and every word of the lists, after the run, after the call
+// that explains and after the bare one, which takes the first list alone. A case is `CALL LIGHT LV LB LE LK NI i.. NR r.. NT t..`, as `replay` has it; CALL, LIGHT and LK are not looked at, and
 // the lists have at most 64 words, all 7 before each call. What is no case is answered by `case`.
 use capi::MavistableAnswer;
 use capi::MavistableVerdict;
@@ -14,6 +14,13 @@ ghost use lib.ListN.{length};
 use words::index;
 use words::long;
 
+// The calls, of which the check is made with the run.
+const RUN: u32 = 0;
+
+const EXPLAIN: u32 = 2;
+
+const BARE: u32 = 3;
+
 fn malformed() {
     io::write_all(STDOUT_FILENO, b"case\n");
 }
@@ -25,8 +32,8 @@ fn put_verdict(out: &mut [u8], at: usize, v: MavistableVerdict) -> usize {
     text::put_bytes(out, at, b"\n")
 }
 
-fn put_answer(out: &mut [u8], at: usize, a: MavistableAnswer) -> usize {
-    let at = put_after(out, at, b"run ", long(a.ending));
+fn put_answer(out: &mut [u8], at: usize, name: &[u8], a: MavistableAnswer) -> usize {
+    let at = put_after(out, at, name, long(a.ending));
     let at = put_after(out, at, b" ", long(a.number));
     let at = put_after(out, at, b" ", a.place as u64);
     let at = put_after(out, at, b" ", long(a.command));
@@ -84,7 +91,7 @@ fn check_and_run(
     let v = capi::mavistable_check(t);
     let a = capi::mavistable_run(t, inputs, registers, values, bases, ends);
     let at = put_verdict(&mut out, 0, v);
-    let at = put_answer(&mut out, at, a);
+    let at = put_answer(&mut out, at, b"run ", a);
     let at = put_lists(&mut out, at, values, bases, ends);
     stream::flush(&out, at);
 }
@@ -104,8 +111,16 @@ fn explain(
     stream::flush(&out, at);
 }
 
+fn run_bare(t: &[u32], inputs: &[u32], registers: &[u32], values: &mut [u32]) {
+    let mut out = io::large_buffer();
+    let a = capi_bare::mavistable_run_bare(t, inputs, registers, values);
+    let at = put_answer(&mut out, 0, b"bare ", a);
+    let at = put_list(&mut out, at, b"values", values);
+    stream::flush(&out, at);
+}
+
 // A case whose registers start at `list` and whose table stands from `from` to `to`.
-fn lend(explains: bool, numbers: &[u32], list: usize, from: usize, to: usize)
+fn lend(call: u32, numbers: &[u32], list: usize, from: usize, to: usize)
     requires { ⌜ (8 ≤ list) × (list < from) × (from ≤ to) × (to ≤ length (now numbers)) ⌝ }
 {
     let v = index(numbers[2]);
@@ -125,10 +140,10 @@ fn lend(explains: bool, numbers: &[u32], list: usize, from: usize, to: usize)
     let v = &mut values[0..v];
     let b = &mut bases[0..b];
     let e = &mut ends[0..e];
-    if explains {
-        explain(t, inputs, registers, v, b, e);
-    } else {
-        check_and_run(t, inputs, registers, v, b, e);
+    match call {
+        RUN => check_and_run(t, inputs, registers, v, b, e),
+        EXPLAIN => explain(t, inputs, registers, v, b, e),
+        _ => run_bare(t, inputs, registers, v),
     }
 }
 
@@ -145,8 +160,9 @@ fn answer_case(numbers: &[u32]) -> usize
             if from <= n {
                 let to = from + index(numbers[from - 1]);
                 if to <= n {
-                    lend(false, numbers, list, from, to);
-                    lend(true, numbers, list, from, to);
+                    lend(RUN, numbers, list, from, to);
+                    lend(EXPLAIN, numbers, list, from, to);
+                    lend(BARE, numbers, list, from, to);
                     return to;
                 }
             }

@@ -1,6 +1,6 @@
 // Recorded cases: the lines of the input, and where the parts of a case stand among the numbers of its line. A case is
-// `CALL LIGHT LV LB LE LK NI i.. NR r.. NT t..`: CALL is 0 for a run, 1 for the check alone and 2 for a run that is explained; LV, LB and LE
-// are the lengths of the lists lent; LK is not used, LIGHT is 0; i.. are the inputs, r.. the register list and t.. the table. Single spaces
+// `CALL LIGHT LV LB LE LK NI i.. NR r.. NT t..`: CALL is 0 for a run, 1 for the check alone, 2 for a run that is explained and 3 for a bare run;
+// LV, LB and LE are the lengths of the lists lent, of which a bare run takes the first; LK is not used, LIGHT is 0; i.. are the inputs, r.. the register list and t.. the table. Single spaces
 // part the numbers.
 use stream::Part;
 use text::Scanner;
@@ -15,6 +15,7 @@ pub enum Case {
     Run(usize, usize),
     Check(usize),
     Explain(usize, usize),
+    Bare(usize, usize),
     Malformed,
 }
 
@@ -64,6 +65,7 @@ impl Case {
             0 => Case::Run(list, from),
             1 => Case::Check(from),
             2 => Case::Explain(list, from),
+            3 => Case::Bare(list, from),
             _ => Case::Malformed,
         }
     }

@@ -23,7 +23,8 @@ use Rattle.steps.proofs.Finish.{passed-on, touched, watches-on, all-kept}
 use Rattle.lookups.proofs.Lookups.{noted-bounds}
 use Rattle.evaluator.specs.Result.{Place-ready, Value-ready, Value-answered, Assigned-answered}
 use Rattle.evaluator.proofs.Outcomes.{Worked-out, worked-out}
-use Rattle.commands.specs.Command.{Command-nodes, Command-ready, Stored, Done-is, Command-answered}
+use Rattle.lookups.specs.Nodes.{Command-nodes}
+use Rattle.commands.specs.Command.{Command-ready, Stored, Done-is, Command-answered}
 
 -- ---- the store
 

@@ -8,14 +8,14 @@ use native.Mathlib.Numerals.{add-one}
 use native.Mathlib.Decide.{ℕ-discrete}
 use lib.ListN.{length}
 use Rattle.semantics.specs.Words.{Words, word}
-use Rattle.semantics.specs.Table.{edition, variables, commands, count-place, count, item-place, item, node-type}
+use Rattle.semantics.specs.Table.{edition, variables, commands, count, node-type}
 use Rattle.semantics.specs.Check.{command-place, command-value}
 use Rattle.semantics.specs.Syntax.{moves-bounds, place-of, value-of}
 use Rattle.semantics.specs.Rules.{Event, State, Outcome, assign}
 use Rattle.semantics.specs.Run.{command, Ending, done, abort, out-of-memory, stuck, ended, after-command, then-command, commands-below, ending}
 use Rattle.semantics.specs.Explain.{block-start}
 use Rattle.semantics.proofs.Invariant.{Inv}
-use Rattle.semantics.proofs.Passed.{Passed, section-ok, section-end}
+use Rattle.semantics.proofs.Passed.{Passed}
 use Rattle.semantics.proofs.Trees.{command-ok}
 use Rattle.semantics.proofs.Safety.{commands-ok}
 use Rattle.semantics.proofs.Starts.{block-start-none}
@@ -24,7 +24,9 @@ use Rattle.evaluator.proofs.Outcomes.{own-length}
 use Rattle.steps.specs.Answers.{slots, unused-slot, found-slot, failed, state-of, Watches, waiting, seen, Stands, Answers, answers-ok, answers-failed, answers-full}
 use Rattle.steps.specs.Answers as steps
 use Rattle.steps.specs.declared.FailedCheck.{FailedCheck}
-use Rattle.commands.specs.Command.{Command-nodes, Command-ready, Command-answered, Done-is}
+use Rattle.lookups.specs.Nodes.{Command-nodes}
+use Rattle.lookups.proofs.Commands as the
+use Rattle.commands.specs.Command.{Command-ready, Command-answered, Done-is}
 use Rattle.commands.specs.Execution.{ended-of, Starts, Executable, Tells, tells-done, tells-abort, tells-no-room, Ends, Executed}
 use Rattle.commands.specs.declared.Ended.{Ended}
 use Rattle.commands.specs.declared.Ended.the-variants.{Done, Abort, NoRoom}
@@ -88,11 +90,7 @@ module _ {t : Words} {l m₀ : List Words} {at total u₀ w : ℕ} (x : Executab
 
   -- Where the two words of command c stand.
   pub command-words : (c : ℕ) → c < total → (command-place t c ≡ word t (at + 2 * c)) × (command-value t c ≡ word t (at + 2 * c + 1)) × (at + 2 * c + 1 < length t)
-  unfolding item item-place
-  command-words c h =
-      let e : count-place t 5 + 1 + 2 * c + 0 ≡ at + 2 * c = omega (arith, x .first) in
-      let f : count-place t 5 + 1 + 2 * c + 1 ≡ at + 2 * c + 1 = omega (arith, x .first) in
-      (ap (word t) e, ap (word t) f, omega (arith, section-ok t 5 (ok .types .sections 5 (omega arith)) .extent, section-end t 5, x .first, x .all))
+  command-words c h = the.command-words (x .lists-of) (x .first) (x .all) c h
 
   module _ {m : List Words} (s : Words) {c : ℕ} (far : So-far t m₀ u₀ w m s c) (room : length s ≡ slots) (less : c < total) where
     -- The state that command c is run from, after a begin with this log.
@@ -108,21 +106,13 @@ module _ {t : Words} {l m₀ : List Words} {at total u₀ w : ℕ} (x : Executab
 
     module _ {p v : ℕ} (hp : p ≡ word t (at + 2 * c)) (hv : v ≡ word t (at + 2 * c + 1)) where
       place-is : p ≡ command-place t c
-      place-is = hp ∙ sym (command-words c less .0)
+      place-is = the.place-is (x .lists-of) (x .first) (x .all) c less hp hv
 
       value-is : v ≡ command-value t c
-      value-is = hv ∙ sym (command-words c less .1)
+      value-is = the.value-is (x .lists-of) (x .first) (x .all) c less hp hv
 
       command-nodes : Command-nodes t l p v (count t variables)
-      command-nodes =
-          let k = command-ok ok c (omega (arith, x .all)) in
-          record {
-            lists-of = x .lists-of;
-            place-node = rw place-is (k .place-node);
-            value-node = rw value-is (k .value-node);
-            place-tree = rw place-is (k .place-tree);
-            value-tree = rw value-is (k .value-tree);
-          }
+      command-nodes = the.command-nodes (x .lists-of) (x .first) (x .all) c less hp hv
 
       pub command-ready : Command-ready l m p v s
       command-ready =

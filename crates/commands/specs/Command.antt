@@ -1,29 +1,20 @@
 -- One command over the memory: its place, its value, and the store.
-use Prim.Native.Nat.{ℕ, _<_}
+use Prim.Native.Nat.{ℕ}
 use mathlib.Core.Path.{_≡_}
 use mathlib.Core.List.{List, [], _∷_}
 use lib.ListN.{length, set}
 use Rattle.words.specs.Columns.{column}
 use Rattle.semantics.specs.Words.{Words, word, if_then_else_}
-use Rattle.semantics.specs.Table.{edition, nodes, count, is-pointer, node-type}
+use Rattle.semantics.specs.Table.{edition, is-pointer, node-type}
 use Rattle.semantics.specs.Syntax.{moves-bounds, place-of, value-of}
 use Rattle.semantics.specs.Rules.{Event, assign}
-use Rattle.semantics.proofs.Steps.{Place-ok, Value-ok}
-use Rattle.lookups.specs.Lists.{Lists}
+use Rattle.lookups.specs.Nodes.{Command-nodes}
 use Rattle.steps.specs.Answers.{slots, unused-slot, state-of, Stands, Answers}
 use Rattle.evaluator.specs.Result.{Ready}
 
 -- Values, bases and ends.
 abbrev pub lists : Words → Words → Words → List Words
 lists vs bs es = vs ∷ bs ∷ es ∷ []
-
--- Nodes p and v, a place and a value, of the table t that has the lists l.
-pub record Command-nodes (t : Words) (l : List Words) (p v vars : ℕ) : Type 0 where
-  pub lists-of : Lists t l
-  pub place-node : p < count t nodes
-  pub value-node : v < count t nodes
-  pub place-tree : Place-ok vars (place-of t p)
-  pub value-tree : Value-ok vars (value-of t v)
 
 -- A command of place node p and value node v can be run from the state with U in s.
 pub record Command-ready (l m : List Words) (p v : ℕ) (s : Words) : Type 0 where

@@ -10,7 +10,7 @@ use Rattle.words.specs.Columns.{column}
 use Rattle.semantics.specs.Words.{Words, word}
 use Rattle.semantics.specs.Table.{Edition, edition-1, edition-2, edition, nodes, count, is-pointer, known-type, known-target, size-of, constant, kind-of, node-kind, node-a, node-b, node-type}
 use Rattle.semantics.specs.Syntax.{value-of, step-of, moves-bounds, keeps-bounds, either-bounds}
-use Rattle.semantics.specs.Rules.{Datum, Location, Event, State, Outcome, ok, fails, no-room, no-rule, unbounded, bind, variable-location, deref-step, field-step, read-step, address-step, takes-right, cast-step, malloc-step, place-at, value-at}
+use Rattle.semantics.specs.Rules.{Datum, Location, Event, State, Outcome, ok, fails, no-room, no-rule, unbounded, bind, variable-location, deref-step, field-step, read-step, address-step, takes-right, sum-step, cast-step, copy-step, malloc-step, place-at, value-at}
 use Rattle.semantics.specs.Safety.{Sound, absent, held}
 use Rattle.semantics.proofs.Ints.{cast-of-int, sum-of-int, sum-of-number}
 use Rattle.semantics.proofs.Invariant.{Inv, sound-later, Datum-ok, Good, good-ok, good-fails, good-no-room}
@@ -20,9 +20,9 @@ use Rattle.steps.specs.Answers.{slots, base-slot, end-slot, unused-slot, failed
 use Rattle.evaluator.specs.Result.{Node-answered, Place-answered, Value-answered}
 use Rattle.steps.proofs.Finish.{passed-on, given-ok, watches-on}
 use Rattle.lookups.proofs.Lookups.{noted-type, noted-bounds, noted-by-type}
-use Rattle.evaluator.proofs.Nodes.{value-node, offset-of, count-of, constant-node, size-node, variable-node, deref-node, field-node, read-node, address-node, cast-node, malloc-node, Binary, sums, copies, operates, binary-node, sum-adds-int}
+use Rattle.lookups.proofs.Nodes.{value-node, offset-of, count-of, constant-node, size-node, variable-node, deref-node, field-node, read-node, address-node, cast-node, malloc-node, sum-either, moves-by, Binary, sums, copies, Operands, binary-node, sum-adds-int}
 use Rattle.evaluator.proofs.Outcomes.{worked-out, weakened, number-of, place-only}
-use Rattle.evaluator.proofs.Ready.{kind-is, a-is, b-is, size-known, read-type}
+use Rattle.lookups.proofs.Ready.{kind-is, a-is, b-is, size-known, read-type}
 
 all-kept : (o : Outcome Datum) → bind o (cast-step true) ≡ o
 all-kept (ok x s) = refl
@@ -216,6 +216,17 @@ module _ {l m : List Words} {n : ℕ} {s : Words} {k a : ℕ} (e : k ≡ part l 
 
 -- ---- a sum or a copy: the left operand, then the right one
 
+-- What node n does with both values. The number is the words by which 1 moves the left one: those of the record, for a copy.
+abbrev operates : {x : ℕ} → Binary x → (t : Words) (n words : ℕ) → Datum → Datum → State → Outcome Datum
+operates sums t n words = sum-step (sum-either t) words
+operates copies t n words = copy-step n words
+
+operated : {vars x : ℕ} (b : Binary x) {t : Words} {n : ℕ} → Operands vars t n b → (st : State)
+    → value-at (value-of t n) st ≡ bind (value-at (value-of t (node-a t n)) st) (λ p s. bind (value-at (value-of t (node-b t n)) s) (operates b t n (moves-by t n) p))
+unfolding value-at
+operated sums nd st = rw (nd .tree)
+operated copies nd st = rw (nd .tree)
+
 -- The left operand of node n was worked out, v with the slots s₁: what is answered for it and the right operand d, with the number of words z, is
 -- answered for the node.
 record Left-done (l m : List Words) (n : ℕ) (s : Words) {k : ℕ} (b : Binary k) (d v z : ℕ) (m₁ : List Words) (s₁ : Words) : Type 0 where
@@ -234,7 +245,7 @@ module _ {l m m₁ : List Words} {n k a v x : ℕ} {s s₁ : Words} (b : Binary 
             let nd = binary-node b t n (lists .passed) node (kind-is lists node e q) h in
             let p′ = a-is lists node p in
             let tree = rw (← p′) at (nd .left .tree) in
-            rw (nd .outcome _, ← p′) (passed-on {Ok = Datum-ok} _ (child .room) over .meets vars _ w _ _ (child .meets t lists (omega (arith, nd .left .less, p′)) vars w log st tree) (value-good tree _ (st .inv)));
+            rw (operated b nd _, ← p′) (passed-on {Ok = Datum-ok} _ (child .room) over .meets vars _ w _ _ (child .meets t lists (omega (arith, nd .left .less, p′)) vars w log st tree) (value-good tree _ (st .inv)));
       }
 
   -- The child's number is read again for its type, a₂.
@@ -250,7 +261,7 @@ module _ {l m m₁ : List Words} {n k a v x : ℕ} {s s₁ : Words} (b : Binary 
               let inside : a < count t nodes = omega (arith, nd .left .less, p′) in
               let noted = noted-type lists inside (rw (p₂, ← p) at hy) in
               let step : step-of t (node-type t a) ≡ z = ap (step-of t) (sym (noted .0)) ∙ sym (hz t (noted .1)) in
-              rw (nd .outcome _, ← p′, step, ← d′)
+              rw (operated b nd _, ← p′, step, ← d′)
               (let left = worked-out (child .meets t lists inside vars w log st tree) (value-good tree _ (st .inv)) under in
               rw (left .outcome) (goes (left .result) (left .log) (omega (arith, nd .right .less, d′)) (rw d′ (nd .right .tree)) (left .is) (left .stands) (left .fine)));
         }

@@ -1,5 +1,4 @@
 -- Laws that the functions' proofs cite.
-pub mod Nodes
 pub mod Outcomes
 pub mod Ready
 pub mod Evaluation

@@ -12,48 +12,16 @@ use Rattle.semantics.specs.Table.{edition, nodes, count, is-pointer, variable, 
 use Rattle.semantics.specs.Table as Table
 use Rattle.semantics.specs.Syntax.{moves-bounds}
 use Rattle.semantics.specs.Rules.{unbounded, variable-location, place-at}
-use Rattle.semantics.proofs.Passed.{require-passes}
-use Rattle.semantics.specs.Check.{is-child}
-use Rattle.semantics.proofs.Trees.{Node-ok, node-ok, is-child-true}
 use Rattle.semantics.proofs.Steps.{place-good, value-good}
 use Rattle.lookups.specs.Lists.{part, Lists}
 use Rattle.steps.specs.Answers.{failed, Datum-is, answers-ok, Given, Load-finishes, Malloc-finishes}
-use Rattle.evaluator.specs.Result.{Place-ready, Value-ready, Place-answered, Value-answered, Assigned-answered, Reads-variable}
-use Rattle.lookups.proofs.Lookups.{noted-bounds, constant-bit, variable-bit, read-bit}
-use Rattle.evaluator.proofs.Nodes.{place-node, value-node, kind-number, constant-node, variable-node, read-node, malloc-node}
+use Rattle.evaluator.specs.Result.{Place-ready, Value-ready, Place-answered, Value-answered, Assigned-answered}
+use Rattle.lookups.specs.Nodes.{Reads-variable}
+use Rattle.lookups.proofs.Lookups.{noted-bounds}
+use Rattle.lookups.proofs.Nodes.{place-node, value-node, constant-node, variable-node, read-node, malloc-node}
+use Rattle.lookups.proofs.Ready.{kind-is, a-is, read-type}
 use Rattle.evaluator.proofs.Outcomes.{weakened, place-only}
-use Rattle.evaluator.proofs.Ready.{kind-is, a-is, read-type}
 use Rattle.evaluator.proofs.Evaluation.{from-none}
-
--- ---- nodes worked out without a call, by what is noted of them
-
-module _ {l : List Words} {n x : ℕ} {f : Bool} (e : x ≡ word (column l 1) n) (taken : f ≡ true) where
-  pub is-constant : f ≡ eqb (x / 256 % 2) 1 → (t : Words) → Lists t l → n < count t nodes → node-kind t n ≡ constant
-  is-constant h t lists node = constant-bit lists node e taken h
-
-  pub is-variable : f ≡ eqb (x / 512 % 2) 1 → (t : Words) → Lists t l → n < count t nodes → sort-of (node-kind t n) ≡ Table.place → node-kind t n ≡ variable
-  is-variable h t lists node sort = variable-bit lists node e taken h sort
-
-  pub reads-variable : f ≡ eqb (x / 512 % 2) 1 → Reads-variable l n
-  unfolding kind-of
-  reads-variable h =
-      record {
-        each = λ t lists node sort.
-            let b = read-bit lists node e taken h sort in
-            (b .0, kind-number t (node-a t n) (b .1));
-      }
-
--- A read whose child is noted so.
-pub reads-noted : {l : List Words} {n k a x : ℕ} {f : Bool} → k ≡ part l n 0 → k ≡ 6 → a ≡ part l n 1 → x ≡ word (column l 1) a → f ≡ true → f ≡ eqb (x / 512 % 2) 1 → Reads-variable l n
-unfolding kind-of
-reads-noted {n = n} e q p hx taken h =
-    record {
-      each = λ t lists node sort.
-          let i = kind-is lists node e q in
-          let g : Node-ok t n read (node-a t n) (node-b t n) = rw i at (node-ok t n (lists .passed .node-passes n node)) in
-          let ch = is-child-true t Table.place n (node-a t n) (require-passes (is-child t Table.place n (node-a t n)) 7 _ (g .a-ok)) in
-          (i, variable-bit lists (omega (arith, ch .0)) (rw (a-is lists node p) at hx) taken h (sym (ch .1)));
-    }
 
 module _ {l m : List Words} {n : ℕ} {s : Words} {a : ℕ} (p : a ≡ part l n 1) where
   pub constant-answer : {r : ℕ} {s′ : Words} → ((t : Words) → Lists t l → n < count t nodes → node-kind t n ≡ constant) → Given Datum-is (unbounded a) s r s′ → Value-answered l m n s r m s′
@@ -94,13 +62,6 @@ module _ {l m : List Words} {n : ℕ} {s : Words} {a : ℕ} (p : a ≡ part l n 
         let less : i < h .state .vars = omega (arith, v .0, a-is (h .lists) inside g) in
         let inv = h .state .stands .inv in
         omega (arith, inv .low, inv .high, inv .bases-length, inv .ends-length, h .state .most)
-
-  -- The node that it reads stands before it.
-  pub variable-below : Value-ready l m n s → Reads-variable l n → (a < n) × Unit {0}
-  variable-below h reads =
-      let t = h .table in
-      let k = reads .each t (h .lists) (h .node) (value-node t n (h .tree)) in
-      (rw (a-is (h .lists) (h .node) p) (read-node t n (k .0) (h .tree) .0 .less), tt)
 
   -- The number of words is a constant: no slots are set for it.
   pub malloc-constant-answer : {k i v r : ℕ} {s₂ : Words} → k ≡ part l n 0 → k ≡ 10 → ((t : Words) → Lists t l → a < count t nodes → node-kind t a ≡ constant) → i ≡ part l a 1 → v ≡ i → v < failed

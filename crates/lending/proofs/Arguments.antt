@@ -1,7 +1,7 @@
 -- A function's plain arguments in the locals that are theirs: allocated, stored, read again as operands of a call, freed. However many.
 --     Passed           an argument: its type, its value, and that the one fits the other.      passed      values of their types, as such a list
 --     locals, args, operands      the arguments' locals, values and operands, before some others.      behind      the number of a local behind them
---     allocates, stores, reads, frees-all       steps of a walk, for all the arguments at once.      found       a local behind them
+--     allocates, stores, reads-all, frees-all       steps of a walk, for all the arguments at once.      found       a local by its number
 use mathlib.Core.Path.{_≡_, refl, sym, subst}
 use Prim.Native.Nat.{ℕ, zero, suc}
 use mathlib.Core.List.{List, [], _∷_, head-eq-of-cons-eq, tail-eq-of-cons-eq, cons-ne-nil}
@@ -62,11 +62,11 @@ abbrev pub env : (ps : List Passed) → Blocks ps → List (Ty × ℕ) → List 
 env [] bs E = E
 env (p ∷ ps) bs E = (p .ty, bs .0) ∷ env ps (bs .1) E
 
-abbrev Rooms : (ps : List Passed) → Blocks ps → Fml
+abbrev pub Rooms : (ps : List Passed) → Blocks ps → Fml
 Rooms [] bs = ftrue
 Rooms (p ∷ ps) bs = fsep (froom (p .ty) (bs .0) 0) (fsep (fdies (p .ty) (bs .0)) (Rooms ps (bs .1)))
 
-abbrev cell : Passed → ℕ → Fml
+abbrev pub cell : Passed → ℕ → Fml
 cell p b = fat fullShare (p .ty) b 0 (p .val)
 
 abbrev pub Cells : (ps : List Passed) → Blocks ps → Fml
@@ -74,15 +74,15 @@ Cells [] bs = ftrue
 Cells (p ∷ ps) bs = fsep (cell p (bs .0)) (fsep (fdies (p .ty) (bs .0)) (Cells ps (bs .1)))
 
 -- The first of what is left behind i entries, and the rest.
-first-of : {X : Type 0} (E : List X) (i : ℕ) (d : X) {x : X} {F : List X} → drop i E ≡ x ∷ F → (getD E i d ≡ x) × (drop (suc i) E ≡ F)
+pub first-of : {X : Type 0} (E : List X) (i : ℕ) (d : X) {x : X} {F : List X} → drop i E ≡ x ∷ F → (getD E i d ≡ x) × (drop (suc i) E ≡ F)
 first-of [] zero d e = absurd (cons-ne-nil _ _ (sym e))
 first-of [] (suc i) d e = absurd (cons-ne-nil _ _ (sym e))
 first-of (y ∷ E) zero d e = (head-eq-of-cons-eq e, tail-eq-of-cons-eq e)
 first-of (y ∷ E) (suc i) d e = first-of E i d e
 
-behind-them : (ps : List Passed) (bs : Blocks ps) (E : List (Ty × ℕ)) (k : ℕ) (d : Ty × ℕ) → getD (env ps bs E) (behind ps k) d ≡ getD E k d
-behind-them [] bs E k d = refl
-behind-them (p ∷ ps) bs E k d = behind-them ps (bs .1) E k d
+pub behind-them : (ps : List Passed) (bs : Blocks ps) (E : List (Ty × ℕ)) (k : ℕ) → drop (behind ps k) (env ps bs E) ≡ drop k E
+behind-them [] bs E k = refl
+behind-them (p ∷ ps) bs E k = behind-them ps (bs .1) E k
 
 -- Two contexts say the same.
 abbrev Same : {M : Type 1} {𝓤 : URA M} {H : Heap 𝓤} {A : Atoms 𝓤} (K : Type 0) → Given 𝓤 H A → List (Item 𝓤) → List (Item 𝓤) → Type 1
@@ -106,11 +106,15 @@ module _ {M : Type 1} {𝓤 : URA M} {H : Heap 𝓤} {A : Atoms 𝓤} {K : Type 
   frees-all t [] bs = step (λ s. dropped t $ s)
   frees-all t (p ∷ ps) bs = step (λ s. fsplit t $ move t (1 ∷ []) $ fsplit t $ move t (2 ∷ 0 ∷ []) $ frees-cell t $ frees-all t ps (bs .1) $ s)
 
+  -- Local i, which is the first behind i others.
+  pub found : K → {Γ : List (Item 𝓤)} {E : Env 𝓤 H} (i : ℕ) {F : Env 𝓤 H} {τ : Ty} {b : ℕ} {st : List PStep} {sp : Spot 𝓤 H} → drop i E ≡ (τ, b) ∷ F → Walks K W Γ E (τ, b, zero) st sp → Finds K W Γ E (place i st) sp
+  found t {Γ} {E} i {st = st} {sp = sp} e w = from t (subst (λ (x : Ty × ℕ). Walks K W Γ E (x .0, x .1, zero) st sp) (sym (first-of E i (noLocal 𝓤 H) e .0)) w)
+
   -- Operands are read alike in such contexts.
-  alike : {E : Env 𝓤 H} (Γ Γ′ : List (Item 𝓤)) {xs : List Operand} {vs : List Val} → Same K W Γ Γ′ → Opds K W Γ′ E xs vs → Opds K W Γ E xs vs
+  pub alike : {E : Env 𝓤 H} (Γ Γ′ : List (Item 𝓤)) {xs : List Operand} {vs : List Val} → Same K W Γ Γ′ → Opds K W Γ′ E xs vs → Opds K W Γ E xs vs
   alike Γ Γ′ same o = record { go = λ Kt h. via 𝓤 (⋆ 𝓤 H A Γ′) (same .0 .prf) (o .go Kt (via 𝓤 (⋆ 𝓤 H A Γ) (same .1 .prf) h)) }
 
-  apart : K → (p : Passed) (ps : List Passed) (bs : Blocks (p ∷ ps)) (Γ : List (Item 𝓤)) → Same K W (‵ (Cells (p ∷ ps) bs) ∷ Γ) (‵ (Cells ps (bs .1)) ∷ ‵ (cell p (bs .0)) ∷ ‵ (fdies (p .ty) (bs .0)) ∷ Γ)
+  pub apart : K → (p : Passed) (ps : List Passed) (bs : Blocks (p ∷ ps)) (Γ : List (Item 𝓤)) → Same K W (‵ (Cells (p ∷ ps) bs) ∷ Γ) (‵ (Cells ps (bs .1)) ∷ ‵ (cell p (bs .0)) ∷ ‵ (fdies (p .ty) (bs .0)) ∷ Γ)
   apart t p ps bs Γ = (fsplit t $ move t (1 ∷ []) $ fsplit t $ move t (1 ∷ 2 ∷ []) $ done t, move t (2 ∷ 0 ∷ []) $ fjoin t $ move t (1 ∷ []) $ fjoin t $ done t)
 
   reads : K → (ps : List Passed) (bs : Blocks ps) (Γ : List (Item 𝓤)) (E : Env 𝓤 H) (i : ℕ) (F : Env 𝓤 H) {xs : List Operand} {us : List Val} → drop i E ≡ env ps bs F
@@ -118,11 +122,10 @@ module _ {M : Type 1} {𝓤 : URA M} {H : Heap 𝓤} {A : Atoms 𝓤} {K : Type 
   reads t [] bs Γ E i F e o = o
   reads t (p ∷ ps) bs Γ E i F e o =
       let Δ : List (Item 𝓤) = ‵ (cell p (bs .0)) ∷ ‵ (fdies (p .ty) (bs .0)) ∷ Γ in
-      let at-i : (getD E i (noLocal 𝓤 H) ≡ (p .ty, bs .0)) × (drop (suc i) E ≡ env ps (bs .1) F) = first-of E i (noLocal 𝓤 H) e in
       let both : Same K W (‵ (Cells (p ∷ ps) bs) ∷ Γ) (‵ (Cells ps (bs .1)) ∷ Δ) = apart t p ps bs Γ in
       alike (‵ (Cells (p ∷ ps) bs) ∷ Γ) (‵ (Cells ps (bs .1)) ∷ Δ) both
-      (and-then t (load t (from t (subst (λ (x : Ty × ℕ). Walks K W (‵ (Cells ps (bs .1)) ∷ Δ) E (x .0, x .1, zero) [] (p .ty, bs .0, zero)) (sym (at-i .0)) (stop t))) (look t 1 refl))
-      (reads t ps (bs .1) Δ E (suc i) F (at-i .1) (alike (‵ (Cells ps (bs .1)) ∷ Δ) (‵ (Cells (p ∷ ps) bs) ∷ Γ) (both .1, both .0) o)))
+      (and-then t (load t (found t i e (stop t)) (look t 1 refl))
+      (reads t ps (bs .1) Δ E (suc i) F (first-of E i (noLocal 𝓤 H) e .1) (alike (‵ (Cells ps (bs .1)) ∷ Δ) (‵ (Cells (p ∷ ps) bs) ∷ Γ) (both .1, both .0) o)))
 
   swapped : K → (i j : Item 𝓤) (Γ : List (Item 𝓤)) → Same K W (i ∷ j ∷ Γ) (j ∷ i ∷ Γ)
   swapped t i j Γ = (move t (1 ∷ []) $ done t, move t (1 ∷ []) $ done t)
@@ -133,7 +136,3 @@ module _ {M : Type 1} {𝓤 : URA M} {H : Heap 𝓤} {A : Atoms 𝓤} {K : Type 
   reads-all t ps bs E {j} {Γ} {e} o =
       let Δ : List (Item 𝓤) = ‵ (Cells ps bs) ∷ j ∷ Γ in
       alike (j ∷ ‵ (Cells ps bs) ∷ Γ) Δ (swapped t j (‵ (Cells ps bs)) Γ) (reads t ps bs (j ∷ Γ) (e ∷ env ps bs E) 1 E refl (alike Δ (j ∷ ‵ (Cells ps bs) ∷ Γ) (swapped t (‵ (Cells ps bs)) j Γ) o))
-
-  pub found : K → (ps : List Passed) (bs : Blocks ps) (E : Env 𝓤 H) {Γ : List (Item 𝓤)} {e : Ty × ℕ} (k : ℕ) {st : List PStep} {sp : Spot 𝓤 H}
-      → Walks K W Γ (e ∷ env ps bs E) (getD E k (noLocal 𝓤 H) .0, getD E k (noLocal 𝓤 H) .1, zero) st sp → Finds K W Γ (e ∷ env ps bs E) (place (suc (behind ps k)) st) sp
-  found t ps bs E {Γ} {e} k {st} {sp} w = from t (subst (λ (x : Ty × ℕ). Walks K W Γ (e ∷ env ps bs E) (x .0, x .1, zero) st sp) (sym (behind-them ps bs E k (noLocal 𝓤 H))) w)

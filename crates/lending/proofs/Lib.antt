@@ -1,4 +1,5 @@
 pub mod Reborrow
 pub mod Arguments
+pub mod Elements
 pub mod Walk
 pub mod Lending

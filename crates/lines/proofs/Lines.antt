@@ -6,10 +6,13 @@ use native.Mathlib.Omega.{arith}
 use Rattle.machine.specs.declared.Answer.{Answer}
 use Rattle.machine.specs.declared.Answer.the-variants.{Refused, Done, Abort, NoRoom}
 use Rattle.machine.specs.Run.{answer-of}
+use Rattle.machine.specs.Bare.{bare-answer-of}
+use Rattle.machine.specs.declared.BareAnswer.{BareAnswer}
+use Rattle.machine.specs.declared.BareAnswer.the-variants as bare
 use Rattle.semantics.specs.Run as semantics
 use Rattle.semantics.specs.Run.{refusal, ending, done, abort, out-of-memory, stuck}
 use Rattle.stream.specs.Items.{Item, number, item-room, room-of, Puts-items}
-use Rattle.lines.specs.Lines.{space, done-word, abort-word, noroom-word, refused-word, line-end, ending-line, unused, word-line}
+use Rattle.lines.specs.Lines.{space, done-word, abort-word, noroom-word, refused-word, stuck-word, line-end, ending-line, bare-ending-line, unused, word-line}
 
 pub same-items : {ps qs : List Item} {out : List ℕ} {at : ℕ} {out′ : List ℕ} {r : ℕ} → ps ≡ qs → Puts-items ps out at out′ r → Puts-items qs out at out′ r
 same-items e h = rw e at h
@@ -30,6 +33,24 @@ module _ {a : Answer} {x : ℕ} where
   pub noroom-items : {c u y : ℕ} → a ≡ NoRoom c u → x ≡ c → y ≡ u → noroom-word ∷ number x ∷ space ∷ number y ∷ [] ≡ ending-line (answer-of a)
   unfolding ending-line
   noroom-items e p q = rw (e, p, q)
+
+-- A bare call's ending is told as the ending of a run that it is, or as stuck.
+module _ {a : BareAnswer} where
+  pub bare-refused-items : {n y : ℕ} → a ≡ bare.Refused n y → ending-line (refusal n y) ≡ bare-ending-line (bare-answer-of a)
+  unfolding bare-ending-line
+  bare-refused-items e = rw e
+
+  pub bare-done-items : {u : ℕ} → a ≡ bare.Done u → ending-line (ending done u) ≡ bare-ending-line (bare-answer-of a)
+  unfolding bare-ending-line
+  bare-done-items e = rw e
+
+  pub bare-noroom-items : {c u : ℕ} → a ≡ bare.NoRoom c u → ending-line (ending (out-of-memory c) u) ≡ bare-ending-line (bare-answer-of a)
+  unfolding bare-ending-line
+  bare-noroom-items e = rw e
+
+  pub stuck-items : {c u x y : ℕ} → a ≡ bare.Stuck c u → x ≡ c → y ≡ u → stuck-word ∷ number x ∷ space ∷ number y ∷ [] ≡ bare-ending-line (bare-answer-of a)
+  unfolding bare-ending-line
+  stuck-items e p q = rw (e, p, q)
 
 pub word-items : {value base end v b e : ℕ} (address : ℕ) → v ≡ value → b ≡ base → e ≡ end
     → number address ∷ space ∷ number v ∷ space ∷ number b ∷ space ∷ number e ∷ line-end ∷ [] ≡ word-line address value base end

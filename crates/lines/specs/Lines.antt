@@ -2,6 +2,7 @@
 use Prim.Native.Nat.{ℕ}
 use mathlib.Core.List.{List, [], _∷_}
 use Rattle.semantics.specs.Run.{Answer, refusal, ending, done, abort, out-of-memory, stuck}
+use Rattle.semantics.specs.Bare as Bare
 use Rattle.stream.specs.Items.{Item, word, number}
 
 -- Byte 32 is a space, byte 10 a line end.
@@ -32,6 +33,16 @@ ending-line (ending (abort command) u) = abort-word ∷ number command ∷ space
 ending-line (ending (out-of-memory command) u) = noroom-word ∷ number command ∷ space ∷ number u ∷ []
 -- No run ends so (`Spatially-safe`), and no answer says it.
 ending-line (ending (stuck command) u) = []
+
+abbrev pub stuck-word : Item
+stuck-word = word (115 ∷ 116 ∷ 117 ∷ 99 ∷ 107 ∷ 32 ∷ [])
+
+-- The same of a bare call, which may be `stuck command U`.
+unfoldable pub bare-ending-line : Bare.Answer → List Item
+bare-ending-line (Bare.refusal n place) = ending-line (refusal n place)
+bare-ending-line (Bare.ending Bare.done u) = ending-line (ending done u)
+bare-ending-line (Bare.ending (Bare.out-of-memory command) u) = ending-line (ending (out-of-memory command) u)
+bare-ending-line (Bare.ending (Bare.stuck command) u) = stuck-word ∷ number command ∷ space ∷ number u ∷ []
 
 -- "After a run one line follows for each word from 1 to U − 1": the U of these words, so that none follows a refusal.
 unfoldable pub unused : Answer → ℕ

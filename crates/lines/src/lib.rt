@@ -1,11 +1,13 @@
-// The lines that the bench program prints for a call: how it ended, and the words of the memory.
+// The lines that the bench program prints for a call: how it ended, and the words of the memory. How a bare call ended.
 use machine::Answer;
+use machine::BareAnswer;
 use stream::put_after;
 ghost use mathlib.Core.List.{[], _∷_};
 ghost use mathlib.Core.Path.{_≡_};
 ghost use Rattle.machine.specs.Run.{answer-of};
+ghost use Rattle.machine.specs.Bare.{bare-answer-of};
 ghost use Rattle.stream.specs.Items.{word, number, Puts-items};
-ghost use Rattle.lines.specs.Lines.{space, ending-line, unused, word-line};
+ghost use Rattle.lines.specs.Lines.{space, ending-line, bare-ending-line, unused, word-line};
 use words::index;
 use words::long;
 
@@ -35,6 +37,24 @@ pub fn put_ending(out: &mut [u8], at: usize, a: Answer) -> usize
             out,
             at,
             b"noroom ",
+            long(command),
+            long(unused),
+        ),
+    }
+}
+
+// How a bare call ended, without the line's end.
+pub fn put_bare_ending(out: &mut [u8], at: usize, a: BareAnswer) -> usize
+    ensures { λ r. ⌜ Puts-items (bare-ending-line (bare-answer-of a)) (now (out .entry)) at (now (out .exit)) r ⌝ }
+{
+    match a {
+        BareAnswer::Refused(number, place) => put_ending(out, at, Answer::Refused(number, place)),
+        BareAnswer::Done(unused) => put_ending(out, at, Answer::Done(unused)),
+        BareAnswer::NoRoom(command, unused) => put_ending(out, at, Answer::NoRoom(command, unused)),
+        BareAnswer::Stuck(command, unused) => put_pair(
+            out,
+            at,
+            b"stuck ",
             long(command),
             long(unused),
         ),

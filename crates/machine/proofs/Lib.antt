@@ -2,3 +2,4 @@
 pub mod Reasons
 pub mod Calls
 pub mod Explaining
+pub mod Bare

@@ -1,3 +1,4 @@
 -- What the contracts of this crate cite.
 pub mod Run
 pub mod Explain
+pub mod Bare

@@ -1,15 +1,20 @@
-// Runs a table: the commands in order over the three lists of the memory, and tells why a run aborted.
+// Runs a table: the commands in order over the three lists of the memory, and tells why a run aborted; or over its values alone, without bounds.
 ghost use mathlib.Core.Path.{_≡_};
 ghost use Rattle.semantics.specs.Safety.{Spatially-safe};
 ghost use Rattle.semantics.specs.Log.{Log-believable};
 ghost use Rattle.semantics.specs.Check.{_or-else_, check, arguments-fault, registers-fault};
 ghost use Rattle.semantics.specs.Run.{call};
 ghost use Rattle.semantics.specs.Explain.{explain, Truly-explained};
+ghost use Rattle.semantics.specs.Words.{Words};
+ghost use Rattle.semantics.specs.Bare as bare;
+ghost use Rattle.semantics.specs.Agreement.{Same-result};
 ghost use Rattle.semantics.proofs.Registers.{Whole};
 ghost use Rattle.layout.specs.Layout.{verdict-of, Stands};
 ghost use Rattle.layout.specs.Layout as layout-specs;
 ghost use Rattle.machine.specs.Run.{answer-of, Is, Program, Can-begin, Has-begun};
 ghost use Rattle.machine.specs.Explain.{answer-told, explained-of, cause-told, reason-by, starting-at, Declared, Tells-ended, Startable, Executed, Watchable, Called};
+ghost use Rattle.bare_commands.specs.Execution.{ended-of};
+ghost use Rattle.machine.specs.Bare.{bare-answer-of, bare-result, Has-begun-bare, Startable-bare, Executed-bare, Called-bare};
 use arguments::check_arguments;
 use commands::Ended;
 use layout::Firsts;
@@ -21,6 +26,7 @@ use layout::Sizes;
 use layout::Table;
 use layout::Verdict;
 use registers::check_registers;
+use registers::place_registers;
 use registers::set_registers;
 use registers::start_of;
 use table::note_edition;
@@ -380,5 +386,125 @@ pub fn explain(
                 watched = index(word);
             }
         }
+    }
+}
+
+// How a bare call ended: refused with number and place; done with U; out of memory or stuck with command number and U.
+pub enum BareAnswer {
+    Refused(u32, usize),
+    Done(u32),
+    NoRoom(u32, u32),
+    Stuck(u32, u32),
+}
+
+// A bare run's ending as the answer of a call.
+fn bare_told(e: bare_commands::Ended) -> BareAnswer
+    ensures { λ r. ⌜ bare-answer-of r ≡ ended-of e ⌝ }
+{
+    match e {
+        bare_commands::Ended::Done(unused) => BareAnswer::Done(unused),
+        bare_commands::Ended::NoRoom(command, unused) => BareAnswer::NoRoom(command, unused),
+        bare_commands::Ended::Stuck(command, unused) => BareAnswer::Stuck(command, unused),
+    }
+}
+
+// The memory that a bare run begins with: clear, but for the inputs and the registers. Answers the first unused word.
+fn begin_bare(variables: usize, inputs: &[u32], registers: &[u32], values: &mut [u32]) -> u32
+    requires { ⌜ Can-begin variables (now inputs) (now registers) (now values) (now values) (now values) ⌝ }
+    ensures { λ r. ⌜ Has-begun-bare variables (now (inputs .entry)) (now (registers .entry)) (now (values .entry)) (now (values .exit)) r ⌝ }
+{
+    values[0] = 0;
+    store_all(values, 1, inputs);
+    let unused = place_registers(registers, narrow(variables) + 1, values);
+    clear_from(values, index(unused));
+    unused
+}
+
+// The commands of a table that passed the check, from the memory that a bare run begins with.
+fn run_bare_commands<'a>(
+    t: &'a [u32],
+    layout: Table,
+    first: &'a Firsts,
+    sizes: &'a Sizes,
+    offsets: &'a Offsets,
+    notes: &'a Notes,
+    unused: u32,
+    values: &mut [u32],
+) -> BareAnswer
+    requires { ⌜ Startable-bare (now t) layout (now first) (now sizes) (now offsets) (now notes) (now values) ⌝ }
+    ensures { λ r. ⌜ Executed-bare (now (t .entry)) (now (values .entry)) unused r (now (values .exit)) ⌝ }
+{
+    let fields = layout.fields;
+    let pointers = layout.pointers;
+    let nodes = layout.nodes;
+    let section = layout.commands;
+    let first_field = fields.at;
+    let first_pointer = pointers.at;
+    let first_node = nodes.at;
+    let l = [
+        &t[first_node..],
+        &notes[..],
+        &t[first_pointer..],
+        &t[first_field..],
+        &first[..],
+        &sizes[..],
+        &offsets[..],
+    ];
+    let e = lending::execute_bare(t, section.at, narrow(section.count), &l, unused, values);
+    bare_told(e)
+}
+
+// The rest of a bare call, for a table that passed the check.
+fn run_bare_checked<'a>(
+    t: &'a [u32],
+    layout: Table,
+    first: &'a Firsts,
+    sizes: &'a Sizes,
+    offsets: &'a Offsets,
+    notes: &'a Notes,
+    inputs: &[u32],
+    registers: &[u32],
+    values: &mut [u32],
+) -> BareAnswer
+    requires { ⌜ (Program (now t) (now first) (now sizes) (now offsets) (now notes)) × (layout ≡ layout-specs.layout (now t)) ⌝ }
+    ensures { λ r. ⌜ Called-bare (now (t .entry)) (now (inputs .entry)) (now (registers .entry)) (now (values .entry)) r (now (values .exit)) ⌝ }
+{
+    let variables = layout.variables;
+    // 10 speaks of one list.
+    let len = values.len();
+    if let Verdict::Refused(n, p) = check_call(t, variables, inputs, registers, len, len, len) {
+        return BareAnswer::Refused(n, p);
+    }
+    let unused = begin_bare(variables.count, inputs, registers, values);
+    run_bare_commands(t, layout, first, sizes, offsets, notes, unused, values)
+}
+
+// Checks and runs a table without bounds, as old controllers do. A refused call changes no word of the list. Where `run` is done or finds no room, it
+// ends the same way, with the same values.
+pub fn run_bare(t: &[u32], inputs: &[u32], registers: &[u32], values: &mut [u32]) -> BareAnswer
+    ensures called { λ r. ⌜ bare-result r (now (values .exit)) ≡ bare.call (now (t .entry)) (now (inputs .entry)) (now (registers .entry)) (now (values .entry)) ⌝ }
+    ensures agrees { λ r. ⌜ ((vs bs es : Words) → Same-result (now (t .entry)) (now (inputs .entry)) (now (registers .entry)) vs bs es (now (values .entry))) ⌝ }
+{
+    let mut first = [0u32; Table::RECORDS + 1];
+    let mut sizes = [0u32; Table::RECORDS];
+    let mut offsets = [0u32; Table::FIELDS];
+    let mut notes = [0u32; Table::NODES];
+    match table::check(t, &mut first, &mut sizes, &mut offsets, &mut notes) {
+        Parsed::Is(l) => {
+            let nodes = l.nodes;
+            note_edition(t, nodes.count, &mut notes);
+            run_bare_checked(
+                t,
+                l,
+                &first,
+                &sizes,
+                &offsets,
+                &notes,
+                inputs,
+                registers,
+                values,
+            )
+        }
+        Parsed::Refused(n, p) => BareAnswer::Refused(n, p),
     }
 }

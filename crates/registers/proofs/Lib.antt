@@ -1,3 +1,4 @@
 -- Laws that the functions' proofs cite.
 pub mod Lists
 pub mod Blocks
+pub mod Places

@@ -8,6 +8,7 @@ use Rattle.semantics.specs.Table.{variables, count}
 use Rattle.semantics.specs.Registers.{register-count, register-length, register-start}
 use Rattle.semantics.specs.Rules.{State}
 use Rattle.semantics.specs.Run.{with-register, registers-below}
+use Rattle.semantics.specs.Bare as Bare
 use Rattle.semantics.proofs.Invariant.{Inv}
 use Rattle.semantics.proofs.Registers.{Listed}
 
@@ -64,3 +65,31 @@ pub record All-fit (l : Words) (u : ℕ) (vs bs es : Words) : Type 0 where
 pub data Register-of (l : Words) (first w : ℕ) : ℕ → Type 0 where
   in-register : (i : ℕ) → i < register-count l → register-start first l i ≤ w → w < register-start first l i + register-length l i → Register-of l first w (register-start first l i)
   past-all : register-start first l (register-count l) ≤ w → Register-of l first w 0
+
+-- ---- without bounds
+
+abbrev pub bare-memory : Words → ℕ → Bare.State
+bare-memory vs u = record { values = vs; unused = u }
+
+-- The register at place p of a list was placed in memory with this first unused word, which left that one.
+pub record Register-placed (l : Words) (p : ℕ) (vs : Words) (u : ℕ) (vs′ : Words) (u′ : ℕ) : Type 0 where
+  pub is : bare-memory vs′ u′ ≡ Bare.with-register (word l p) (word l (p + 1)) (take (word l (p + 1)) (drop (p + 2) l)) (bare-memory vs u)
+
+-- So were the registers of a list below i.
+pub record Registers-placed (l : Words) (i : ℕ) (vs : Words) (u : ℕ) (vs′ : Words) (u′ : ℕ) : Type 0 where
+  pub is : bare-memory vs′ u′ ≡ Bare.registers-below l i (bare-memory vs u)
+
+-- The register at place p of a list stands in it, and fits in the memory from word u on.
+pub record Placeable (l : Words) (p u : ℕ) (vs : Words) : Type 0 where
+  pub inside : p + 2 + word l (p + 1) ≤ length l
+  pub named : 1 + word l p < length vs
+  pub room : u + word l (p + 1) ≤ length vs
+  pub most : length vs ≤ 65536
+
+-- So do all registers of a list that is not refused, from word u on, the first after the variables of some table.
+pub record All-placeable (l : Words) (u : ℕ) (vs : Words) : Type 0 where
+  pub table : Words
+  pub list : Listed table l (length vs)
+  pub first : u ≡ 1 + count table variables
+  pub room : count table variables < length vs
+  pub most : length vs ≤ 65536

@@ -8,7 +8,7 @@ ghost use Rattle.semantics.specs.Registers.{register-count};
 ghost use Rattle.semantics.specs.Check.{each, extent-fault, names-pointer, name-fault, room-fault, registers-fault};
 ghost use Rattle.semantics.proofs.Registers.{Whole};
 ghost use Rattle.layout.specs.Layout.{verdict-of, Stands};
-ghost use Rattle.registers.specs.Blocks.{Register-set, Registers-set, Fits, All-fit, Register-of};
+ghost use Rattle.registers.specs.Blocks.{Register-set, Registers-set, Fits, All-fit, Register-of, Register-placed, Registers-placed, Placeable, All-placeable};
 use layout::Section;
 use layout::Table;
 use layout::Verdict;
@@ -171,6 +171,39 @@ pub fn set_registers(
     let mut at = first;
     for i in 0..count {
         at = set_register(list, p, at, values, bases, ends);
+        p = register_end(list, p);
+    }
+    at
+}
+
+// The register at place p becomes a block at word `at` of a memory without bounds, and its variable points to it. Answers the first word after it.
+fn place_register(list: &[u32], p: usize, at: u32, values: &mut [u32]) -> u32
+    requires { ⌜ Placeable (now list) p at (now values) ⌝ }
+    ensures { λ r. ⌜ Register-placed (now (list .entry)) p (now (values .entry)) at (now (values .exit)) r ⌝ }
+{
+    let word = 1 + index(list[p]);
+    let n = list[p + 1];
+    if n == 0 {
+        values[word] = 0;
+        return at;
+    }
+    let from = p + 2;
+    let to = from + index(n);
+    store_all(values, index(at), &list[from..to]);
+    values[word] = at;
+    at + n
+}
+
+// The registers become blocks of a memory without bounds, from word `first` on, in order. Answers the first word after the last.
+pub fn place_registers(list: &[u32], first: u32, values: &mut [u32]) -> u32
+    requires { ⌜ All-placeable (now list) first (now values) ⌝ }
+    ensures { λ r. ⌜ Registers-placed (now (list .entry)) (register-count (now (list .entry))) (now (values .entry)) first (now (values .exit)) r ⌝ }
+{
+    let count = list[0];
+    let mut p = 1;
+    let mut at = first;
+    for i in 0..count {
+        at = place_register(list, p, at, values);
         p = register_end(list, p);
     }
     at

@@ -1,10 +1,11 @@
 // Answers recorded cases, one line in and one line out, so that thousands run in one process. The crate `cases` says what a case is. The lists
-// that one lends arrive with the word 7 in every place. An explained run is answered as a run is, and then by its explanation. A line that is no
-// case is answered by `case`.
+// that one lends arrive with the word 7 in every place. An explained run is answered as a run is, and then by its explanation; a bare run by its
+// ending and the words up to the last that is not 0. A line that is no case is answered by `case`.
 use cases::Case;
 use cases::Line;
 use layout::Verdict;
 use machine::Answer;
+use machine::BareAnswer;
 use machine::Cause;
 use machine::Explained;
 use stream::Part;
@@ -34,9 +35,14 @@ fn is_changed(list: &[u32]) -> bool {
     false
 }
 
+// A value, after a space.
+fn put_value(out: &mut [u8], at: usize, value: u32) -> usize {
+    put_after(out, at, b" ", long(value))
+}
+
 // A word of memory as `value:base:end`.
 fn put_word(out: &mut [u8], at: usize, value: u32, base: u32, end: u32) -> usize {
-    let at = put_after(out, at, b" ", long(value));
+    let at = put_value(out, at, value);
     let at = put_after(out, at, b":", long(base));
     put_after(out, at, b":", long(end))
 }
@@ -144,6 +150,85 @@ fn put_explained(
     }
 }
 
+// The words of a list after word 0, up to `end`.
+fn put_values(out: &mut [u8], at: usize, end: usize, values: &[u32]) -> usize
+    requires { ⌜ end ≤ length (now values) ⌝ }
+{
+    let mut at = at;
+    for i in 1..end {
+        at = make_room(out, at);
+        at = put_value(out, at, values[i]);
+    }
+    at
+}
+
+// The place after the last word that is not 0, or 1.
+fn used(values: &[u32]) -> usize {
+    let n = values.len();
+    let mut end = 1;
+    for i in 1..n {
+        if values[i] != 0 {
+            end = i + 1;
+        }
+    }
+    end
+}
+
+// How a bare run ended, then the values that it left, or whether a refused one has changed a word.
+fn put_bare(out: &mut [u8], at: usize, a: BareAnswer, values: &[u32]) -> usize {
+    let at = lines::put_bare_ending(out, at, a);
+    if let BareAnswer::Refused(_, _) = a {
+        if is_changed(values) {
+            return put_bytes(out, at, b" changed");
+        }
+        return at;
+    }
+    // No word stands past the list's end, so nothing is cut off: `least` stands for the proof of that.
+    let end = least(used(values), values.len());
+    if end < 2 {
+        return put_bytes(out, at, b" ; -");
+    }
+    let at = put_bytes(out, at, b" ;");
+    put_values(out, at, end, values)
+}
+
+// Runs a table without bounds, in a list that it fills first.
+fn run_bare_filled(
+    t: &[u32],
+    inputs: &[u32],
+    registers: &[u32],
+    values: &mut [u32],
+    out: &mut [u8],
+    at: usize,
+) -> usize {
+    fill(values);
+    let a = machine::run_bare(t, inputs, registers, values);
+    put_bare(out, at, a, values)
+}
+
+fn run_bare_case(
+    numbers: &[u32],
+    list: usize,
+    from: usize,
+    values: &mut [u32],
+    out: &mut [u8],
+    at: usize,
+) -> usize
+    requires { ⌜ Within (now numbers) list from ⌝ }
+{
+    let v = least(index(numbers[2]), values.len());
+    let inputs_end = list - 1;
+    let list_end = from - 1;
+    run_bare_filled(
+        &numbers[from..],
+        &numbers[7..inputs_end],
+        &numbers[list..list_end],
+        &mut values[0..v],
+        out,
+        at,
+    )
+}
+
 // Runs a table in lists that it fills first, and explains the run if asked to.
 fn run_filled(
     explains: bool,
@@ -232,6 +317,7 @@ fn answer_numbers(
             out,
             at,
         ),
+        Case::Bare(list, from) => run_bare_case(numbers, list, from, values, out, at),
         Case::Malformed => put_bytes(out, at, b"case"),
     }
 }

@@ -29,7 +29,7 @@ use Rattle.semantics.proofs.Safety.{Begun, begun, begin-inv, commands-o
 -- ---- two outcomes
 
 -- The state without bounds and log.
-abbrev bared : State → Bare.State
+abbrev pub bared : State → Bare.State
 bared s = record { values = s .values; unused = s .unused }
 
 -- The bare outcome follows the fenced one: its state is the same without bounds, its result is what f keeps of the fenced result. Where a check fails
@@ -214,14 +214,14 @@ register-bared : (v n : ℕ) (ws : Words) (s : State) → Bare.with-register v n
 register-bared v zero ws s = refl
 register-bared v (suc n) ws s = refl
 
-registers-bared : (l : Words) (i : ℕ) (s : State) → Bare.registers-below l i (bared s) ≡ bared (registers-below l i s)
+pub registers-bared : (l : Words) (i : ℕ) (s : State) → Bare.registers-below l i (bared s) ≡ bared (registers-below l i s)
 unfolding registers-below Bare.registers-below
 registers-bared l zero s = refl
 registers-bared l (suc i) s =
     ap (Bare.with-register (register-variable l i) (register-length l i) (register-words l i)) (registers-bared l i s)
     ∙ register-bared (register-variable l i) (register-length l i) (register-words l i) (registers-below l i s)
 
-begin-bared : (t inputs registers : Words) (len : ℕ) → Bare.begin t inputs registers len ≡ bared (begin t inputs registers len)
+pub begin-bared : (t inputs registers : Words) (len : ℕ) → Bare.begin t inputs registers len ≡ bared (begin t inputs registers len)
 unfolding begin Bare.begin cleared Bare.cleared
 begin-bared t inputs registers len = registers-bared registers (register-count registers) (cleared t inputs len)
 

@@ -1,6 +1,7 @@
 -- Each table of examples computes to what it says: those that document 01 prints and that requests 1 and 2 ask for (specs/Examples.antt), and
 -- those that hold each sentence (specs/RefusalExamples.antt, CallExamples.antt, RunExamples.antt, TreeExamples.antt, ExplainExamples.antt, LeftExamples.antt,
--- CopyExamples.antt, MarkExamples.antt, EditionExamples.antt). Last the check as it was before request 7 (DepthExamples.antt).
+-- CopyExamples.antt, MarkExamples.antt, EditionExamples.antt, BareExamples.antt, BareRunExamples.antt, BareStepExamples.antt). Last the check as it was
+-- before request 7 (DepthExamples.antt).
 use mathlib.Core.Bool.{true, false}
 use mathlib.Core.Path.{_≡_, refl}
 use mathlib.Core.List.{[], _∷_, map}
@@ -12,6 +13,7 @@ use Rattle.semantics.specs.Syntax.{step-of, tree-rule, trees-below, tree
 use Rattle.semantics.specs.Rules.{words-left, enough-left, checked, deref-step, field-step, touchable, read-step, takes-right, malloc-step, each-noted, move-step, copy-step, place-at, value-at, assign-step, assign}
 use Rattle.semantics.specs.Run.{cleared, with-register, registers-below, begin, command, commands-below, run, call}
 use Rattle.semantics.specs.Explain.{without-bounds, reason-of, block-start, first-word, newest-cause, explain}
+use Rattle.semantics.specs.Bare as Bare
 use Rattle.semantics.specs.ExampleTables.{judged, answered, Example, observed}
 use Rattle.semantics.specs.Examples.{verdicts, refusals, runs, refused-lists, register-runs, record-runs}
 use Rattle.semantics.specs.RefusalExamples.{sections, declarations, operands, node-types, copy-types, commands-and-uses}
@@ -22,6 +24,9 @@ use Rattle.semantics.specs.LeftExamples.{counted, numbers-left, left-run
 use Rattle.semantics.specs.CopyExamples.{shifted, shifts, copy-runs, overlaps, copy-orders, copies-told}
 use Rattle.semantics.specs.MarkExamples.{mark, marked-verdicts, marks, marked-requests, marked-refusals, marked-runs}
 use Rattle.semantics.specs.EditionExamples.{int-runs, sum-runs, block-runs, added, additions, reads-and-casts, reads-and-casts-outcomes, assignments, assignments-outcomes, editions-told}
+use Rattle.semantics.specs.BareExamples.{Bare-example, bared, bare-refusals, lists-alone, bare-answered, bare-requests, same-runs, runs-past-aborts, steps-past-aborts, copies-past-aborts, editions-past-aborts, compared, beside-aborts}
+use Rattle.semantics.specs.BareRunExamples.{outside-runs, stuck-runs, bare-copies, wrapping-runs, obtaining-runs, plain-runs}
+use Rattle.semantics.specs.BareStepExamples.{little, work, bare-values, perform, bare-assignments, reached, reaches, obtain, obtains, move, moves, bare-registered, partly, parts}
 use Rattle.semantics.specs.TreeExamples.{every-kind, roots, trees-of, small, worked, values, copies, copies-outcomes, stepped, steps, registered, wild, wild-runs}
 use Rattle.semantics.proofs.Depth.{deeper, node-fault-before, check-before}
 use Rattle.semantics.proofs.DepthExamples.{measured, depths, judged-before, verdicts-before}
@@ -271,6 +276,101 @@ marked-trees-grow-so = refl
 pub editions-are-told-so : map tell editions-told ≡ editions-told
 unfolding accounted computed editions-told
 editions-are-told-so = refl
+
+-- ---- The bare run
+
+-- To unfold this is to unfold every definition that a bare call comes down to.
+unfenced : Bare-example → Bare-example
+unfolding computed bared Bare.touchable Bare.read-step Bare.malloc-step Bare.copy-step Bare.place-at Bare.assign-step Bare.assign Bare.cleared Bare.registers-below Bare.begin Bare.command Bare.commands-below Bare.run Bare.call-fault Bare.call
+unfenced x = bared x
+
+pub bare-refusals-are-given : map bared bare-refusals ≡ bare-refusals
+unfolding unfenced computed refusals refused-lists unequal-lists marked-refusals bare-refusals
+bare-refusals-are-given = refl
+
+pub lists-alone-are-judged-so : map bared lists-alone ≡ lists-alone
+unfolding unfenced computed refusals refused-lists unequal-lists marked-refusals lists-alone
+lists-alone-are-judged-so = refl
+
+pub bare-requests-are-judged-so : map bare-answered bare-requests ≡ bare-requests
+unfolding unfenced computed bare-answered arguments register-lists bare-requests
+bare-requests-are-judged-so = refl
+
+pub same-runs-end-so : map bared same-runs ≡ same-runs
+unfolding unfenced computed runs register-runs marked-runs malloc-runs copy-orders same-runs
+same-runs-end-so = refl
+
+pub runs-go-past-aborts : map bared runs-past-aborts ≡ runs-past-aborts
+unfolding unfenced computed runs register-runs marked-runs record-runs runs-past-aborts
+runs-go-past-aborts = refl
+
+pub steps-go-past-aborts : map bared steps-past-aborts ≡ steps-past-aborts
+unfolding unfenced computed order-runs place-runs steps-past-aborts
+steps-go-past-aborts = refl
+
+pub copies-go-past-aborts : map bared copies-past-aborts ≡ copies-past-aborts
+unfolding unfenced computed copy-runs copy-orders copies-past-aborts
+copies-go-past-aborts = refl
+
+pub editions-go-past-aborts : map bared editions-past-aborts ≡ editions-past-aborts
+unfolding unfenced computed int-runs sum-runs block-runs editions-past-aborts
+editions-go-past-aborts = refl
+
+pub aborts-compare-so : map compared beside-aborts ≡ beside-aborts
+unfolding unfenced computed compared beside-aborts
+aborts-compare-so = refl
+
+pub outside-runs-end-so : map bared outside-runs ≡ outside-runs
+unfolding unfenced computed outside-runs
+outside-runs-end-so = refl
+
+pub stuck-runs-end-so : map bared stuck-runs ≡ stuck-runs
+unfolding unfenced computed stuck-runs
+stuck-runs-end-so = refl
+
+pub bare-copies-end-so : map bared bare-copies ≡ bare-copies
+unfolding unfenced computed bare-copies
+bare-copies-end-so = refl
+
+pub wrapping-runs-end-so : map bared wrapping-runs ≡ wrapping-runs
+unfolding unfenced computed wrapping-runs
+wrapping-runs-end-so = refl
+
+pub obtaining-runs-end-so : map bared obtaining-runs ≡ obtaining-runs
+unfolding unfenced computed obtaining-runs
+obtaining-runs-end-so = refl
+
+pub plain-runs-end-so : map bared plain-runs ≡ plain-runs
+unfolding unfenced computed plain-runs
+plain-runs-end-so = refl
+
+pub bare-values-are-worked-out-so : map work bare-values ≡ bare-values
+unfolding unfenced computed work bare-values
+bare-values-are-worked-out-so = refl
+
+pub bare-assignments-come-out-so : map perform bare-assignments ≡ bare-assignments
+unfolding unfenced computed perform bare-assignments
+bare-assignments-come-out-so = refl
+
+pub words-are-reached-so : map reached reaches ≡ reaches
+unfolding unfenced reached reaches
+words-are-reached-so = refl
+
+pub words-are-obtained-so : map obtain obtains ≡ obtains
+unfolding unfenced computed obtain obtains
+words-are-obtained-so = refl
+
+pub words-are-moved-so : map move moves ≡ moves
+unfolding unfenced computed move moves
+words-are-moved-so = refl
+
+pub bare-registers-are-set-so : Bare.with-register 1 0 [] little ∷ Bare.with-register 1 1 (70 ∷ []) little ∷ Bare.with-register 1 2 (70 ∷ 80 ∷ []) little ∷ [] ≡ bare-registered
+unfolding bare-registered
+bare-registers-are-set-so = refl
+
+pub parts-run-so : map partly parts ≡ parts
+unfolding unfenced computed partly parts
+parts-run-so = refl
 
 -- ---- The check as it was before request 7
 

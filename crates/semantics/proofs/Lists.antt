@@ -122,13 +122,14 @@ pub moved-length : (l : Words) (to from n : ℕ) → length (moved l to from n) 
 unfolding moved
 moved-length l to from n = length-sets l to (words-from l from n)
 
+-- In a list of no words nothing is stored.
+pub sets-nil : (i : ℕ) (xs : Words) → sets {A = ℕ} [] i xs ≡ []
+sets-nil i [] = refl
+sets-nil i (x ∷ xs) = sets-nil (suc i) xs
+
 pub moved-nil : (to from n : ℕ) → moved [] to from n ≡ []
 unfolding moved
-moved-nil to from n = none to (words-from [] from n)
-  where
-    none : (i : ℕ) (xs : Words) → sets {A = ℕ} [] i xs ≡ []
-    none i [] = refl
-    none i (x ∷ xs) = none (suc i) xs
+moved-nil to from n = sets-nil to (words-from [] from n)
 
 pub moved-outside : (l : Words) (to from n w : ℕ) → (w < to) ⊎ (to + n ≤ w) → word (moved l to from n) w ≡ word l w
 unfolding moved

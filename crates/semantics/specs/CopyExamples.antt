@@ -59,13 +59,13 @@ shifts =
 abbrev small-records : List (List Words)
 small-records = (of-type 0 1 ∷ []) ∷ (of-type 2 1 ∷ of-type 0 2 ∷ []) ∷ []
 
-abbrev table : List Command → Words
+abbrev pub table : List Command → Words
 table cs = types small-records targets (int ∷ int* ∷ record-1* ∷ record-1* ∷ []) ++ routine cs
 
-abbrev a : Term
+abbrev pub a : Term
 a = Var 2
 
-abbrev b : Term
+abbrev pub b : Term
 b = Var 3
 
 abbrev run : Words → List Command → Answer → List Datum → Example
@@ -75,7 +75,7 @@ abbrev ints : Words → List Datum
 ints = map unbounded
 
 -- Registers of 71 to 73 for a, [5, 8), and of 74 to 76 for b, [8, 11); one of 71 to 76 for a, [5, 11).
-abbrev three-and-three : Words
+abbrev pub three-and-three : Words
 three-and-three = 2 ∷ 2 ∷ 3 ∷ 71 ∷ 72 ∷ 73 ∷ 3 ∷ 3 ∷ 74 ∷ 75 ∷ 76 ∷ []
 
 abbrev six : Words
@@ -97,7 +97,7 @@ abbrev aborts : Term → Example
 aborts t = leaves ((x := t) ∷ []) (ending (abort 0) 11) 30 none as-handed-in
 
 -- copy(a, b), and what it leaves
-abbrev a-from-b : Term
+abbrev pub a-from-b : Term
 a-from-b = Copy (Read a) (Read b)
 
 abbrev both-b : List Datum
@@ -107,7 +107,7 @@ both-b = ints (74 ∷ 75 ∷ 76 ∷ 74 ∷ 75 ∷ 76 ∷ [])
 abbrev on : Term → ℕ → Term
 on t k = Cast (as-plus int* t k) record-1*
 
-abbrev one-word : Term → Term
+abbrev pub one-word : Term → Term
 one-word t = Cast t record-0*
 
 abbrev first-of : Term → Term

@@ -68,6 +68,24 @@ malloc-to-p n = p := Cast (Malloc (Num n)) 2
 abbrev pub store-over-p : List Command
 store-over-p = malloc-to-p 2 ∷ (Deref (Cast (Address p) 2) := Num 3) ∷ (Deref (Read p) := Num 8) ∷ []
 
+-- Routine A: a record of a snapshot and a live queue, two ints each; the snapshot's pointer stepped by 2 aborts at the queue
+abbrev pub routine-A : Example
+routine-A =
+    ends-so
+    (1 ∷ 2
+    ∷ 2 ∷ 0 ∷ 2 ∷ 0 ∷ 2
+    ∷ 2 ∷ 65536 ∷ 0
+    ∷ 2 ∷ 2 ∷ 3
+    ∷ 22
+    ∷ 1 ∷ 0 ∷ 0 ∷ 9 ∷ 65536 ∷ 0 ∷ 10 ∷ 1 ∷ 0 ∷ 8 ∷ 2 ∷ 2
+    ∷ 1 ∷ 1 ∷ 0 ∷ 1 ∷ 0 ∷ 0 ∷ 6 ∷ 5 ∷ 0 ∷ 3 ∷ 6 ∷ 0 ∷ 7 ∷ 7 ∷ 0
+    ∷ 1 ∷ 1 ∷ 0 ∷ 6 ∷ 9 ∷ 0 ∷ 2 ∷ 10 ∷ 0 ∷ 4 ∷ 9 ∷ 0
+    ∷ 1 ∷ 1 ∷ 0 ∷ 1 ∷ 1 ∷ 0 ∷ 6 ∷ 14 ∷ 0 ∷ 4 ∷ 2 ∷ 0 ∷ 5 ∷ 15 ∷ 16
+    ∷ 1 ∷ 1 ∷ 0 ∷ 6 ∷ 18 ∷ 0 ∷ 2 ∷ 19 ∷ 0 ∷ 4 ∷ 9 ∷ 0
+    ∷ 5 ∷ 0 ∷ 3 ∷ 4 ∷ 8 ∷ 11 ∷ 12 ∷ 13 ∷ 17 ∷ 20 ∷ 21 ∷ [])
+    (0 ∷ 0 ∷ []) no-registers 16
+    (ending (abort 4) 7) (bounded 3 3 7 ∷ bounded 5 3 5 ∷ unbounded 9 ∷ unbounded 0 ∷ unbounded 0 ∷ unbounded 0 ∷ [])
+
 unfoldable pub runs : List Example
 runs =
     -- six zeros, memory 1 word
@@ -99,21 +117,7 @@ runs =
     -- *((int*)malloc(1)+1) = 0
     ∷ with-p ((Deref (Sum (Cast (Malloc (Num 1)) 2) (Num 1)) := Num 0) ∷ [])
     (ending (abort 0) 3) (unbounded 0 ∷ unbounded 0 ∷ [])
-    -- routine A: a record of a snapshot and a live queue, two ints each; the snapshot's pointer stepped by 2 aborts at the queue
-    ∷ ends-so
-    (1 ∷ 2
-    ∷ 2 ∷ 0 ∷ 2 ∷ 0 ∷ 2
-    ∷ 2 ∷ 65536 ∷ 0
-    ∷ 2 ∷ 2 ∷ 3
-    ∷ 22
-    ∷ 1 ∷ 0 ∷ 0 ∷ 9 ∷ 65536 ∷ 0 ∷ 10 ∷ 1 ∷ 0 ∷ 8 ∷ 2 ∷ 2
-    ∷ 1 ∷ 1 ∷ 0 ∷ 1 ∷ 0 ∷ 0 ∷ 6 ∷ 5 ∷ 0 ∷ 3 ∷ 6 ∷ 0 ∷ 7 ∷ 7 ∷ 0
-    ∷ 1 ∷ 1 ∷ 0 ∷ 6 ∷ 9 ∷ 0 ∷ 2 ∷ 10 ∷ 0 ∷ 4 ∷ 9 ∷ 0
-    ∷ 1 ∷ 1 ∷ 0 ∷ 1 ∷ 1 ∷ 0 ∷ 6 ∷ 14 ∷ 0 ∷ 4 ∷ 2 ∷ 0 ∷ 5 ∷ 15 ∷ 16
-    ∷ 1 ∷ 1 ∷ 0 ∷ 6 ∷ 18 ∷ 0 ∷ 2 ∷ 19 ∷ 0 ∷ 4 ∷ 9 ∷ 0
-    ∷ 5 ∷ 0 ∷ 3 ∷ 4 ∷ 8 ∷ 11 ∷ 12 ∷ 13 ∷ 17 ∷ 20 ∷ 21 ∷ [])
-    (0 ∷ 0 ∷ []) no-registers 16
-    (ending (abort 4) 7) (bounded 3 3 7 ∷ bounded 5 3 5 ∷ unbounded 9 ∷ unbounded 0 ∷ unbounded 0 ∷ unbounded 0 ∷ [])
+    ∷ routine-A
     ∷ []
 
 -- ---- Request 1

@@ -24,3 +24,6 @@ pub mod LeftExamples
 pub mod CopyExamples
 pub mod MarkExamples
 pub mod EditionExamples
+pub mod BareExamples
+pub mod BareRunExamples
+pub mod BareStepExamples

@@ -1,13 +1,13 @@
 -- Lists that a loop fills: with 0, or from some index on with another list; and lists of which a part is stored or cleared.
 use Prim.Native.Nat.{ℕ, suc, _+_, _-_, _≤_, _<_}
 use mathlib.Core.Path.{_≡_, refl, sym, ap, _∙_}
-use mathlib.Core.List.{List, [], _∷_, _++_, append-nil}
+use mathlib.Core.List.{List, [], _∷_, _++_, append-assoc, append-nil}
 use native.Mathlib.Omega.{arith}
 use native.Mathlib.Decide.{ℕ-discrete}
 use native.Mathlib.Numerals.{add-one}
 use native.Mathlib.Nat.{add-zero, add-suc, suc-add}
 use lib.ListN.{length, getD, take, drop, set, replicate, length-set, length-append, length-drop, take-append-drop, length-replicate, getD-replicate}
-use lib.Seq.{sets, ext-getD, getD-set-same, getD-set-other, take-suc, length-take-le, take-all, take-length, drop-length, take-at, getD-drop, length-sets, sets-eq}
+use lib.Seq.{sets, ext-getD, getD-set-same, getD-set-other, take-suc, length-take-le, take-all, take-length, drop-length, take-at, getD-drop, drop-drop, length-sets, sets-eq}
 
 -- The list is as long as l₀ and 0 below i.
 pub record Cleared (l₀ l : List ℕ) (i : ℕ) : Type 0 where
@@ -64,6 +64,14 @@ copied-all {l₀} {a} {xs} {i = i} h all = h .stores ∙ ap (λ ys. sets l₀ a 
 -- A part that was lent from index a on came back as zeros.
 pub part-cleared : (l : List ℕ) (a : ℕ) {ys : List ℕ} → ys ≡ replicate (length (take (length l - a) (drop a l))) 0 → take a l ++ (ys ++ drop (length l - a) (drop a l)) ≡ take a l ++ replicate (length l - a) 0
 part-cleared l a h = rw (h, ← (length-drop a l), take-length (drop a l), drop-length (drop a l)) (ap (λ r. take a l ++ r) (append-nil _))
+
+-- A part of n words that was lent from index a on came back as zeros: they are stored there.
+pub part-zeroed : (l : List ℕ) (a n : ℕ) {ys : List ℕ} → a + n ≤ length l → ys ≡ replicate (length (take n (drop a l))) 0 → take a l ++ (ys ++ drop n (drop a l)) ≡ sets l a (replicate n 0)
+part-zeroed l a n fits h =
+    let zeros : List ℕ = replicate n 0 in
+    let many : length zeros ≡ n = length-replicate n 0 in
+    rw (h, length-take-le n (drop a l) (omega (arith, length-drop a l)), drop-drop n a l)
+    (sym (sets-eq zeros l a (omega arith) ∙ ap (λ k. take a l ++ zeros ++ drop (a + k) l) many ∙ append-assoc (take a l) zeros (drop (a + n) l)))
 
 -- Where words are stored from index i on, the list up to the last of them.
 pub front-sets : (l : List ℕ) (i : ℕ) (xs : List ℕ) → i + length xs ≤ length l → take (i + length xs) (sets l i xs) ≡ take i l ++ xs

@@ -65,3 +65,11 @@ pub fn clear_from(list: &mut [u32], at: usize)
 {
     clear(&mut list[at..]);
 }
+
+// Sets the words of a list from place `at` up to `to` to 0.
+pub fn clear_part(list: &mut [u32], at: usize, to: usize)
+    requires { ⌜ (at ≤ to) × (to ≤ length (now list)) ⌝ }
+    ensures { λ r. ⌜ now (list .exit) ≡ sets (now (list .entry)) at (replicate (to - at) 0) ⌝ }
+{
+    clear(&mut list[at..to]);
+}

@@ -44,10 +44,12 @@ use Rattle.words.proofs.narrow.Reads as narrow-reads
 use Rattle.evaluator.proofs.+place+value.{statement}
 use Rattle.evaluator.proofs.+place+value.Tie.{close}
 use Rattle.evaluator.proofs.Outcomes.{joined, kept-lists, kept-names}
-use Rattle.evaluator.proofs.Nodes.{sums, copies}
-use Rattle.evaluator.proofs.Ready.{address-ready, cast-ready, constant-kind, constant-malloc, copy-asks, copy-inside, deref-ready, drops-ready, falls-to, field-asks, field-child, field-ready, first-ready, inside-after, is-copy, is-field, item-at, item-of, last-kinds, left-ready, malloc-ready, note-of, read-ready, right-ready, room-after, size-ready, step-ready, variable-small}
+use Rattle.lookups.proofs.Nodes.{sums, copies}
+use Rattle.lookups.proofs.Ready.{address-ready, cast-ready, constant-kind, constant-malloc, copy-asks, deref-ready, drops-ready, falls-to, field-asks, field-child, field-ready, first-ready, is-copy, is-field, item-at, item-of, last-kinds, left-ready, malloc-ready, note-of, read-ready, size-ready, step-ready}
+use Rattle.evaluator.proofs.Ready.{copy-inside, inside-after, right-ready, room-after, variable-small}
 use Rattle.evaluator.proofs.Evaluation.{address-answer, copy-answer, deref-answer, drop-answer, ended-answer, field-answer, keep-answer, malloc-answer, read-answer, size-answer, sum-answer, sum-constant-answer, variable-answer}
-use Rattle.evaluator.proofs.Noted.{constant-answer, is-constant, malloc-constant-answer, reads-noted, reads-variable}
+use Rattle.lookups.proofs.Shortcuts.{is-constant, reads-noted, reads-variable}
+use Rattle.evaluator.proofs.Noted.{constant-answer, malloc-constant-answer}
 
 abbrev μ-place : Measures 5 place-kinds.ps ℕ
 μ-place κs a = a .1 .1 .0

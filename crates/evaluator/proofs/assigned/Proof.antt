@@ -2,8 +2,9 @@
 use borrow.Author.Needs.{needs}
 use mathlib.Core.Path.{refl}
 use native.Mathlib.Omega.{arith}
-use Rattle.evaluator.proofs.Ready.{item-at, note-at}
-use Rattle.evaluator.proofs.Noted.{is-variable, assigned-variable, assigned-place}
+use Rattle.lookups.proofs.Ready.{item-at, note-at}
+use Rattle.lookups.proofs.Shortcuts.{is-variable}
+use Rattle.evaluator.proofs.Noted.{assigned-variable, assigned-place}
 use Rattle.evaluator.proofs.assigned.Statement.{statement}
 use Rattle.evaluator.proofs.assigned.Tie as tie
 

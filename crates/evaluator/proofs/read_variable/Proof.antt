@@ -6,8 +6,9 @@ use Rattle.steps.proofs.Finish.{load-done}
 use Prim.Native.Nat.{_+_, _<_}
 use Rattle.steps.specs.Answers.{failed}
 use Rattle.evaluator.proofs.Outcomes.{kept-lists}
-use Rattle.evaluator.proofs.Ready.{item-at, item-of, note-of}
-use Rattle.evaluator.proofs.Noted.{variable-below, variable-inside, variable-read}
+use Rattle.lookups.proofs.Ready.{item-at, item-of, note-of}
+use Rattle.lookups.proofs.Shortcuts.{variable-below}
+use Rattle.evaluator.proofs.Noted.{variable-inside, variable-read}
 use Rattle.evaluator.proofs.read_variable.Statement.{statement}
 use Rattle.evaluator.proofs.read_variable.Tie as tie
 

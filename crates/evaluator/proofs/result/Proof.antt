@@ -3,8 +3,9 @@ use borrow.Author.Needs.{needs}
 use mathlib.Core.Path.{refl}
 use native.Mathlib.Omega.{arith}
 use Rattle.evaluator.proofs.Outcomes.{kept-names}
-use Rattle.evaluator.proofs.Ready.{item-at, note-at}
-use Rattle.evaluator.proofs.Noted.{is-constant, reads-variable, constant-answer}
+use Rattle.lookups.proofs.Ready.{item-at, note-at}
+use Rattle.lookups.proofs.Shortcuts.{is-constant, reads-variable}
+use Rattle.evaluator.proofs.Noted.{constant-answer}
 use Rattle.evaluator.proofs.result.Statement.{statement}
 use Rattle.evaluator.proofs.result.Tie as tie
 

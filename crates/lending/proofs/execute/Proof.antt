@@ -89,7 +89,7 @@ module _ {M : Type 1} (𝓤 : URA M) (H : Heap 𝓤) (A : Atoms 𝓤) (W : Given
         (ShrSlice (named 0) (κs .0) u32 ∷ usize ∷ u32 ∷ ShrRef (named 1) (κs .1 .0) behind-l ∷ u32 ∷ u32 ∷ [])
         (shr-slice-lawful 𝓤 H A W (named 0) (κs .0) u32, (uint-lawful 𝓤 H A W w64, (uint-lawful 𝓤 H A W w32, (shr-lawful 𝓤 H A W (named 1) (κs .1 .0) behind-l, (uint-lawful 𝓤 H A W w32, (uint-lawful 𝓤 H A W w32, tt))))))
         (t, (at, (total, (l, (first, (watched, tt)))))) (slice-vals t, (uint-vals w64 at, (uint-vals w32 total, (ptr-vals l, (uint-vals w32 first, (uint-vals w32 watched, tt)))))) (are .0, (are .1 .0, (are .1 .1 .0, (are .1 .1 .1 .0, (are .1 .1 .1 .1 .0, (are .1 .1 .1 .1 .1 .0, tt))))))
-        u32 (named 3) (named 4) (named 5) v b e ended.the-row (enum-laws.lawful ended.the-type ended-laws.the-laws 𝓤 H A W tt) Ensures Requires
+        u32 v (b ∷ e ∷ []) (named 3, (named 4, (named 5, tt))) (are .1 .1 .1 .1 .1 .1) ended.the-row (enum-laws.lawful ended.the-type ended-laws.the-laws 𝓤 H A W tt) Ensures Requires
         (λ m g. known (
           (
             (κs .0, (κs .1 .0, (κs .1 .1 .0, (g .call ∷ [], (g .call ∷ [], tt))))),

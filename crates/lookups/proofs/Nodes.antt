@@ -10,7 +10,6 @@ use Rattle.semantics.specs.Words.{Words, grow}
 use Rattle.semantics.specs.Table.{edition, nodes, item, count, target, points-to-record, pointed-record, field-offset, field-count, size-of, Kind, variable, deref, field, constant, sum, read, address, cast, size, malloc, copy, unknown, kind-of, Sort, sort-of, node-kind, node-a, node-b, node-type}
 use Rattle.semantics.specs.Table as Table
 use Rattle.semantics.specs.Syntax.{Place, Variable, Deref, Field, Value, Number, Sum, Read, Address, Cast, Malloc, Copy, Tree, senseless, as-place, as-value, step-of, moves-bounds, keeps-bounds, either-bounds, tree-by-kind, tree-rule, trees-below, tree-of, place-of, value-of}
-use Rattle.semantics.specs.Rules.{Datum, State, Outcome, bind, sum-step, copy-step, value-at}
 use Rattle.semantics.proofs.Tests.{and-true}
 use Rattle.semantics.proofs.Passed.{Passed}
 use Rattle.semantics.proofs.Lists.{length-grow}
@@ -256,16 +255,15 @@ pub data Binary : ℕ → Type 0 where
   sums : Binary 5
   copies : Binary 11
 
--- What node n does with both values. The number is the words by which 1 moves the left one: those of the record, for a copy.
-abbrev pub operates : {x : ℕ} → Binary x → (t : Words) (n words : ℕ) → Datum → Datum → State → Outcome Datum
-operates sums t n words = sum-step (sum-either t) words
-operates copies t n words = copy-step n words
+-- The tree of node n, from those of both values. The number is the words by which 1 moves the left one: those of the record, for a copy.
+abbrev pub operation : {x : ℕ} → Binary x → (t : Words) (n words : ℕ) → Value → Value → Value
+operation sums t n words = Sum n (sum-either t) words
+operation copies t n words = Copy n words
 
 pub record Operands (vars : ℕ) (t : Words) (n : ℕ) {x : ℕ} (b : Binary x) : Type 0 where
   pub left : Value-child vars t n (node-a t n)
   pub right : Value-child vars t n (node-b t n)
-  pub outcome : (st : State)
-      → value-at (value-of t n) st ≡ bind (value-at (value-of t (node-a t n)) st) (λ p s. bind (value-at (value-of t (node-b t n)) s) (operates b t n (moves-by t n) p))
+  pub tree : value-of t n ≡ operation b t n (moves-by t n) (value-of t (node-a t n)) (value-of t (node-b t n))
 
 -- A copy's left operand points to a record.
 pub copy-points : (t : Words) (n : ℕ) → Passed t → n < count t nodes → node-kind t n ≡ copy → points-to-record t (node-type t (node-a t n)) ≡ true
@@ -278,11 +276,11 @@ unfolding step-of
 copies-step t n passed node k = rw (copy-points t n passed node k)
 
 pub binary-node : {vars x : ℕ} (b : Binary x) (t : Words) (n : ℕ) → Passed t → n < count t nodes → node-kind t n ≡ kind-of x → Value-ok vars (value-of t n) → Operands vars t n b
-unfolding kind-of value-at
-binary-node sums t n passed node k h = let nd = sum-node t n k h in record { left = nd .0; right = nd .1; outcome = λ st. rw (nd .2) }
+unfolding kind-of
+binary-node sums t n passed node k h = let nd = sum-node t n k h in record { left = nd .0; right = nd .1; tree = nd .2 }
 binary-node copies t n passed node k h =
     let nd = copy-node t n k h in
-    record { left = nd .0; right = nd .1; outcome = λ st. rw (nd .2, copies-step t n passed node k) }
+    record { left = nd .0; right = nd .1; tree = rw (← (copies-step t n passed node k)) (nd .2) }
 
 -- A sum's right operand is an int.
 pub sum-adds-int : (t : Words) (n : ℕ) → Passed t → n < count t nodes → node-kind t n ≡ sum → node-type t (node-b t n) ≡ 0
