@@ -1,5 +1,6 @@
 //! Random cases, the same ones for the same seed and index.
 
+mod bare;
 mod carried;
 mod copies;
 mod copying;
@@ -16,21 +17,29 @@ mod soup;
 mod steps;
 mod stray;
 mod types;
+mod wild;
 
 use crate::text::{Call, Case};
 use random::Random;
 use routine::Routine;
 use types::Types;
 
-/// Appends the line of case `index` of a seed, its byte 10 included. Each tenth
-/// is the one before it in the other edition.
+/// Appends the line of case `index` of a seed, its byte 10 included. Of each
+/// ten, the fifth is the run before it as a bare run, and the last is the case
+/// before it in the other edition.
 pub fn line(seed: u64, index: u64, out: &mut Vec<u8>) {
-    let again = index % 10 == 9;
+    let of_ten = index % 10;
+    let again = matches!(of_ten, 4 | 9);
     let mut random = Random::new(seed, index - u64::from(again));
     let start = out.len();
-    let mut case = case(&mut random);
-    if again {
-        edition::change(&mut case.table);
+    let mut case = match of_ten {
+        3 | 4 => wild_or_mixed(&mut random, 25),
+        _ => case(&mut random),
+    };
+    match of_ten {
+        4 => case.call = Call::Bare,
+        9 => edition::change(&mut case.table),
+        _ => {}
     }
     case.write(out);
     if random.below(400) == 0 {
@@ -38,9 +47,33 @@ pub fn line(seed: u64, index: u64, out: &mut Vec<u8>) {
     }
 }
 
-/// The mixture of cases, in thousandths.
+/// A case of any call.
 fn case(random: &mut Random) -> Case {
-    let mut case = match random.weighted(&[560, 225, 95, 50, 35, 15, 20]) {
+    if random.percent(13) {
+        let mut case = wild_or_mixed(random, 75);
+        bare::make(random, &mut case);
+        return case;
+    }
+    let mut case = mixed(random);
+    case.call = match random.weighted(&[25, 15, 60]) {
+        0 => Call::Run,
+        1 => Call::Check,
+        _ => Call::Explain,
+    };
+    case
+}
+
+/// A run. Of a hundred, so many go where only a bare run can.
+fn wild_or_mixed(random: &mut Random, wild: u32) -> Case {
+    match random.percent(wild) {
+        true => shuffled(random, Routine::wild).case(),
+        false => mixed(random),
+    }
+}
+
+/// The mixture of cases, in thousandths. All are runs.
+fn mixed(random: &mut Random) -> Case {
+    let mut case = match random.weighted(&[555, 240, 90, 50, 30, 15, 20]) {
         0 => well_formed(random).case(),
         1 => damaged(random),
         2 => {
@@ -52,11 +85,6 @@ fn case(random: &mut Random) -> Case {
         4 => soup::words(random),
         5 => large(random),
         _ => shuffled(random, deep::routine).case(),
-    };
-    case.call = match random.weighted(&[38, 16, 46]) {
-        0 => Call::Run,
-        1 => Call::Check,
-        _ => Call::Explain,
     };
     if random.percent(5) {
         case.blocks = random.below(201);
@@ -76,12 +104,12 @@ fn well_formed(random: &mut Random) -> Routine {
 /// only the types are wrong.
 fn damaged(random: &mut Random) -> Case {
     let mut routine = well_formed(random);
-    let wrong_copy = random.percent(15) && routine.add_wrong_copy(random);
+    let wrong_copy = random.percent(18) && routine.add_wrong_copy(random);
     let mut case = routine.case();
     if wrong_copy && random.percent(75) {
         return case;
     }
-    match random.percent(20) {
+    match random.percent(24) {
         true => damage::mark(random, &mut case),
         false => damage::damage(random, &mut case),
     }

@@ -1,14 +1,15 @@
 //! The check and the run of document 01, with registers handed in, with steps
-//! by records, with a reason for every abort, with whole records copied and
-//! with edition 2. No input or output happens here.
+//! by records, with a reason for every abort, with whole records copied, with
+//! edition 2 and with bare runs. No input or output happens here.
 //!
 //! [`check`] judges a table alone. [`run`] is the whole call: the check, the
 //! conditions on the call (10, 11, 13 to 15), then the routine. [`explain`] is
-//! the same call, and tells of an abort which check was not passed and why. All
-//! work in buffers that are used again from call to call; [`Machine`] lends
-//! them out one by one, so that checking and executing can also be done, and
-//! timed, apart.
+//! the same call, and tells of an abort which check was not passed and why.
+//! [`run_bare`] is the call without bounds. All work in buffers that are used
+//! again from call to call; [`Machine`] lends them out one by one, so that
+//! checking and executing can also be done, and timed, apart.
 
+mod bare;
 mod check;
 mod declarations;
 mod execute;
@@ -16,6 +17,7 @@ mod explain;
 mod layout;
 mod registers;
 
+use bare::Bare;
 use declarations::Declarations;
 use execute::Memory;
 pub use explain::{Explanation, Reason};
@@ -46,13 +48,15 @@ pub enum Verdict {
     Refused(Refusal),
 }
 
-/// What a run answers. `unused` is U, the first unused word.
+/// What a run answers. `unused` is U, the first unused word. A run with bounds
+/// is never stuck, and a bare run never aborts.
 #[derive(Clone, Copy, Debug, PartialEq, Eq)]
 pub enum Answer {
     Refused(Refusal),
     Done { unused: u32 },
     Abort { command: u32, unused: u32 },
     NoRoom { command: u32, unused: u32 },
+    Stuck { command: u32, unused: u32 },
 }
 
 /// The type of ints. Type 1 is pointer to void, and 2 + i pointer entry i.
@@ -136,6 +140,14 @@ pub fn explain(
     })
 }
 
+/// The whole call of a bare run, which has one list.
+pub fn run_bare(table: &[u32], inputs: &[u32], registers: &[u32], values: &mut [u32]) -> Answer {
+    MACHINE.with_borrow_mut(|machine| match machine.check(table) {
+        Ok(checked) => checked.execute_bare(inputs, registers, values),
+        Err(refusal) => Answer::Refused(refusal),
+    })
+}
+
 impl Default for Machine {
     fn default() -> Machine {
         Machine::new()
@@ -202,9 +214,14 @@ impl Checked<'_, '_> {
         mut watch: impl Watch,
     ) -> Answer {
         let lengths = [values.len(), bases.len(), ends.len()];
-        match self.admit(inputs, registers, lengths) {
+        match self.admit(inputs, registers, &lengths) {
             Ok(registers) => {
-                let unused = begin(inputs, registers, values, bases, ends, &mut watch);
+                bases.fill(0);
+                ends.fill(0);
+                let unused = begin(inputs, registers, values, |w, base, end| {
+                    (bases[w], ends[w]) = (base, end);
+                    watch.block(base, end - base);
+                });
                 let lists = [values, bases, ends];
                 let commands = self.layout.commands;
                 match self.layout.marked {
@@ -216,19 +233,32 @@ impl Checked<'_, '_> {
         }
     }
 
-    /// Conditions 10, 11 and 13 to 15, in this order.
+    /// The call's own conditions, "with 10 speaking of one list", then the bare
+    /// run.
+    fn execute_bare(&self, inputs: &[u32], registers: &[u32], values: &mut [u32]) -> Answer {
+        match self.admit(inputs, registers, &[values.len()]) {
+            Ok(registers) => {
+                let unused = begin(inputs, registers, values, |_, _, _| ());
+                Bare::new(self, values, unused).execute()
+            }
+            Err(refusal) => Answer::Refused(refusal),
+        }
+    }
+
+    /// Conditions 10, 11 and 13 to 15, in this order, for lists of `lengths`.
     #[inline(always)]
     fn admit<'r>(
         &self,
         inputs: &[u32],
         registers: &'r [u32],
-        lengths: [usize; 3],
+        lengths: &[usize],
     ) -> Result<Registers<'r>, Refusal> {
         let variables = self.layout.variables;
-        let [length, bases, ends] = lengths;
+        let length = lengths[0];
+        let differ = lengths.iter().any(|&other| other != length);
         // "the length isn't from 1 + variables to 65,536"
         let fits = length > variables.len() && length <= 65_536;
-        if bases != length || ends != length || !fits {
+        if differ || !fits {
             return Err(Refusal::new(10, 0));
         }
         if inputs.len() != variables.len() {
@@ -242,19 +272,17 @@ impl Checked<'_, '_> {
     }
 }
 
-/// Memory as it is before the first command: word 0, the inputs, the registers,
-/// and clear words from U on, which is given back. Each value is written once.
+/// Values as they are before the first command: word 0, the inputs, the
+/// registers, and clear words from U on, which is given back. Each value is
+/// written once. `handed_in` is told of each register that has words: the word
+/// of its variable, and the base and end of its own.
 #[inline(always)]
 fn begin(
     inputs: &[u32],
     registers: Registers,
     values: &mut [u32],
-    bases: &mut [u32],
-    ends: &mut [u32],
-    watch: &mut impl Watch,
+    mut handed_in: impl FnMut(usize, u32, u32),
 ) -> u32 {
-    bases.fill(0);
-    ends.fill(0);
     let mut unused = 1 + inputs.len();
     values[0] = 0;
     values[1..unused].copy_from_slice(inputs);
@@ -266,9 +294,7 @@ fn begin(
         if !words.is_empty() {
             let w = 1 + variable as usize;
             values[w] = base as u32;
-            bases[w] = base as u32;
-            ends[w] = unused as u32;
-            watch.block(base as u32, words.len() as u32);
+            handed_in(w, base as u32, unused as u32);
         }
     }
     values[unused..].fill(0);

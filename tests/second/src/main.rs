@@ -101,8 +101,8 @@ fn tally() -> io::Result<()> {
     print(&mut output, &explanations, "explanations")
 }
 
-/// An answer's first word, of refusals with their number, of aborts and no
-/// rooms with whether a command was executed before.
+/// An answer's first word, of refusals with their number, of runs that stopped
+/// with whether a command was executed before.
 fn kind(answer: &str) -> String {
     let mut words = answer.split(' ');
     let first = words.next().unwrap_or("");
@@ -110,8 +110,8 @@ fn kind(answer: &str) -> String {
     match first {
         "refused" if answer.ends_with("changed") => format!("refused {second:>2} changed"),
         "refused" => format!("refused {second:>2}"),
-        "abort" | "noroom" if second == "0" => format!("{first} at command 0"),
-        "abort" | "noroom" => format!("{first} later"),
+        "abort" | "noroom" | "stuck" if second == "0" => format!("{first} at command 0"),
+        "abort" | "noroom" | "stuck" => format!("{first} later"),
         other => other.to_string(),
     }
 }

@@ -6,8 +6,9 @@
 //! - Nothing stands before the first number or after the last one of a line,
 //!   not even a space or a carriage return; an empty line is no case.
 //! - Text after the last byte 10 of the input is taken as one more line.
-//! - The limits and fixed fields hold for the check alone (CALL 1) too, since
-//!   a line has to be a case before any call is made.
+//! - The limits and fixed fields hold for the check alone (CALL 1) too, and
+//!   those of LB and LE for the bare run (CALL 3), since a line has to be a case
+//!   before any call is made.
 
 use crate::machine::{self, Answer, Explanation, Refusal, Verdict};
 
@@ -19,12 +20,15 @@ const MAX_TABLE: u32 = 4_000;
 /// Every word of a lent list arrives with this.
 const LENT: u32 = 7;
 
+/// The calls with their numbers.
 #[derive(Clone, Copy, Debug, Default, PartialEq, Eq)]
+#[repr(u32)]
 pub enum Call {
     #[default]
-    Run,
-    Check,
-    Explain,
+    Run = 0,
+    Check = 1,
+    Explain = 2,
+    Bare = 3,
 }
 
 /// One case: LIGHT is 0, and LK tells nothing.
@@ -50,6 +54,7 @@ impl Case {
             0 => Call::Run,
             1 => Call::Check,
             2 => Call::Explain,
+            3 => Call::Bare,
             _ => return None,
         };
         numbers.up_to(0)?; // LIGHT
@@ -65,13 +70,8 @@ impl Case {
 
     /// Writes the case as a line with its byte 10.
     pub fn write(&self, out: &mut Vec<u8>) {
-        let call: u32 = match self.call {
-            Call::Run => 0,
-            Call::Check => 1,
-            Call::Explain => 2,
-        };
         let [values, bases, ends] = self.lengths;
-        write_number(out, call);
+        write_number(out, self.call as u32);
         for number in [0, values, bases, ends, self.blocks] {
             write_next(out, number);
         }
@@ -154,17 +154,20 @@ impl Default for Answerer {
 impl Answerer {
     /// Appends the answer to a line (without its byte 10) to `out`, as a line.
     pub fn answer(&mut self, line: &[u8], out: &mut Vec<u8>) {
-        if self.case.read(line).is_none() {
-            out.extend_from_slice(b"case");
-        } else if self.case.call == Call::Check {
-            match machine::check(&self.case.table) {
-                Verdict::Pass => out.extend_from_slice(b"pass"),
-                Verdict::Refused(refusal) => write_refusal(out, refusal),
-            }
-        } else {
-            self.run(out);
+        match self.case.read(line).map(|()| self.case.call) {
+            None => out.extend_from_slice(b"case"),
+            Some(Call::Check) => self.check(out),
+            Some(Call::Run | Call::Explain) => self.run(out),
+            Some(Call::Bare) => self.run_bare(out),
         }
         out.push(b'\n');
+    }
+
+    fn check(&self, out: &mut Vec<u8>) {
+        match machine::check(&self.case.table) {
+            Verdict::Pass => out.extend_from_slice(b"pass"),
+            Verdict::Refused(refusal) => write_refusal(out, refusal),
+        }
     }
 
     /// The run, explained where the case asks for it.
@@ -190,17 +193,31 @@ impl Answerer {
             ),
         };
         if let Answer::Refused(refusal) = answer {
-            write_refusal(out, refusal);
-            let lent = [&*values, &*bases, &*ends];
-            if lent.iter().any(|list| list.iter().any(|&w| w != LENT)) {
-                out.extend_from_slice(b" changed");
-            }
+            write_refused_call(out, refusal, &[values, bases, ends]);
         } else {
             let unused = write_ending(out, answer);
             write_memory(out, unused, [values, bases, ends]);
             if explained {
                 write_explanation(out, explanation);
             }
+        }
+    }
+
+    fn run_bare(&mut self, out: &mut Vec<u8>) {
+        let Case {
+            lengths,
+            inputs,
+            registers,
+            table,
+            ..
+        } = &self.case;
+        let values = lend(&mut self.lists[0], lengths[0]);
+        let answer = machine::run_bare(table, inputs, registers, values);
+        if let Answer::Refused(refusal) = answer {
+            write_refused_call(out, refusal, &[values]);
+        } else {
+            write_ending(out, answer);
+            write_values(out, values);
         }
     }
 }
@@ -217,6 +234,14 @@ fn write_refusal(out: &mut Vec<u8>, refusal: Refusal) {
     write_next(out, refusal.place as u32);
 }
 
+/// A refusal, and whether it left a lent word other than it was.
+fn write_refused_call(out: &mut Vec<u8>, refusal: Refusal, lent: &[&mut [u32]]) {
+    write_refusal(out, refusal);
+    if lent.iter().any(|list| list.iter().any(|&w| w != LENT)) {
+        out.extend_from_slice(b" changed");
+    }
+}
+
 /// Writes the ending of a begun run and gives back U.
 fn write_ending(out: &mut Vec<u8>, answer: Answer) -> u32 {
     let (word, command, unused): (&[u8], _, _) = match answer {
@@ -224,6 +249,7 @@ fn write_ending(out: &mut Vec<u8>, answer: Answer) -> u32 {
         Answer::Done { unused } => (b"done", None, unused),
         Answer::Abort { command, unused } => (b"abort", Some(command), unused),
         Answer::NoRoom { command, unused } => (b"noroom", Some(command), unused),
+        Answer::Stuck { command, unused } => (b"stuck", Some(command), unused),
     };
     out.extend_from_slice(word);
     if let Some(command) = command {
@@ -245,6 +271,18 @@ fn write_memory(out: &mut Vec<u8>, unused: u32, [values, bases, ends]: [&mut [u3
         write_number(out, bases[word]);
         out.push(b':');
         write_number(out, ends[word]);
+    }
+}
+
+/// Values from word 1 to the last that is not 0, or `-` where all are.
+fn write_values(out: &mut Vec<u8>, values: &[u32]) {
+    out.extend_from_slice(b" ;");
+    let last = values.iter().rposition(|&value| value != 0).unwrap_or(0);
+    if last == 0 {
+        out.extend_from_slice(b" -");
+    }
+    for &value in &values[1..=last] {
+        write_next(out, value);
     }
 }
 

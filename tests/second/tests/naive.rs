@@ -1,7 +1,9 @@
-//! The machine once more, as plainly as document 01 and requests 1, 2, 4, 6 and
-//! 8 say it and as slow as that is, against the fast one on random cases.
+//! The machine once more, as plainly as document 01 and requests 1, 2, 4, 6, 8
+//! and 9 say it and as slow as that is, against the fast one on random cases.
 
 mod plain;
+mod plain_bare;
+mod plain_call;
 mod plain_run;
 
 use plain::Table;
@@ -20,7 +22,8 @@ fn compare(case: &Case, line: &str) -> usize {
         assert_eq!(machine::check(&case.table), verdict, "{line}");
         return 0;
     }
-    // Both calls, whichever of them the case has.
+    // All three calls, whichever of them the case has.
+    compare_bare(case, line);
     let called = call(case, &RIGHT);
     let mut lists = lists(case);
     let [values, bases, ends] = &mut lists;
@@ -48,6 +51,17 @@ fn compare(case: &Case, line: &str) -> usize {
     left(&lists, &called.cells, line);
     let copies = called.events.iter().filter(|e| matches!(e, Event::Copy(_)));
     copies.count()
+}
+
+fn compare_bare(case: &Case, line: &str) {
+    let called = plain_bare::call(case, &plain_bare::RIGHT);
+    let mut values = vec![7; case.lengths[0] as usize];
+    let ran = machine::run_bare(&case.table, &case.inputs, &case.registers, &mut values);
+    assert_eq!(ran, called.answer, "{line}");
+    match called.words.is_empty() {
+        true => assert!(values.iter().all(|&word| word == 7), "{line}"),
+        false => assert!(values.into_iter().map(u64::from).eq(called.words), "{line}"),
+    }
 }
 
 fn lists(case: &Case) -> [Vec<u32>; 3] {

@@ -1,13 +1,14 @@
 //! Random cases are worth something only if they get everywhere: to each
 //! refusal and each ending, to runs with registers, to steps of all kinds, to
 //! aborts for each reason, of all bounds and all over a command, and to copies
-//! of all kinds.
+//! of all kinds. Bare runs are counted apart from these.
 
 mod aborts;
 mod by_words;
 mod copied;
 mod counts;
 mod plain;
+mod plain_call;
 mod plain_run;
 mod sums;
 
@@ -42,6 +43,9 @@ fn spread() -> Spread {
         line.clear();
         generate::line(1, index, &mut line);
         let line = line.strip_suffix(b"\n").expect("a line");
+        if case.read(line).is_some() && case.call == Call::Bare {
+            continue;
+        }
         let answer = answer(line);
         let mut words = answer.split_whitespace();
         let first = words.next().expect("a word");
@@ -49,14 +53,12 @@ fn spread() -> Spread {
             "refused" => {
                 let number = words.next().expect("a number");
                 count(&mut spread.answers, format!("{first} {number}"));
-                case.read(line).expect("a case");
                 let names = copied::refused(&case).into_iter();
                 names.for_each(|name| count(&mut spread.copies, name));
             }
             _ => count(&mut spread.answers, first),
         }
         if matches!(first, "done" | "abort" | "noroom") {
-            case.read(line).expect("a case");
             spread.begun += 1;
             spread.with_registers += u32::from(case.registers[0] > 0);
             spread.explanation_of(&case);
@@ -113,15 +115,21 @@ impl Spread {
 #[test]
 fn cases_get_everywhere() {
     let spread = spread();
+    for (name, counts) in [
+        ("answers", &spread.answers),
+        ("runs with steps by records", &spread.steps),
+        ("copies", &spread.copies),
+        ("explanations", &spread.explanations),
+    ] {
+        println!("{name}: {counts:#?}");
+    }
     let endings = [("done", 1_000), ("abort", 1_000), ("noroom", 1_000)];
     more_than(&spread.answers, &endings);
     more_than(&spread.answers, &[("pass", 500), ("case", 5)]);
     refusals_are_given(&spread.answers);
     assert!(spread.begun > 4_000 && spread.with_registers > spread.begun / 2);
     steps_lead_everywhere(&spread.steps);
-    println!("copies: {:#?}", spread.copies);
     more_than(&spread.copies, &COPIES);
-    println!("explanations: {:#?}", spread.explanations);
     more_than(&spread.explanations, &EXPLANATIONS);
 }
 
@@ -224,7 +232,6 @@ const EXPLANATIONS: [(&str, u32); 31] = [
 ];
 
 fn steps_lead_everywhere(steps: &Counts) {
-    println!("runs with steps by records: {steps:#?}");
     more_than(steps, &[("done", 400), ("abort", 400), ("noroom", 250)]);
     let telling = [
         ("telling done", 250),

@@ -5,6 +5,7 @@
 mod carried;
 mod counts;
 mod plain;
+mod plain_call;
 mod plain_run;
 mod wrongly;
 
@@ -64,13 +65,16 @@ impl Spread {
         for name in fronts(&case.table) {
             count(&mut self.marks, name);
         }
+        let marked = case.table.first() == Some(&MARK);
+        self.marked += u32::from(marked);
+        if case.call == Call::Bare {
+            return; // What a bare run does is the same in both editions.
+        }
         let answer = answer_to(case);
         let mut words = answer.split_whitespace();
         let (first, number) = (words.next(), words.next());
         let ending = first.expect("a word");
         let begun = matches!(ending, "done" | "abort" | "noroom");
-        let marked = case.table.first() == Some(&MARK);
-        self.marked += u32::from(marked);
         if begun {
             self.run(case, marked);
         }
@@ -134,12 +138,17 @@ impl Spread {
         }
         count(&mut self.both, "in both editions");
         let answers = [&before, case].map(answer_to);
-        let begun = |answer: &String| answer.contains(" ; ");
-        if answers.iter().all(begun) {
-            count(&mut self.both, "run in both editions");
-            if answers[0] != answers[1] {
-                count(&mut self.both, "run differently");
-            }
+        if !answers.iter().all(|answer| answer.contains(" ; ")) {
+            return;
+        }
+        if case.call == Call::Bare {
+            count(&mut self.both, "run bare in both editions");
+            assert_eq!(answers[0], answers[1]);
+            return;
+        }
+        count(&mut self.both, "run in both editions");
+        if answers[0] != answers[1] {
+            count(&mut self.both, "run differently");
         }
     }
 }
@@ -175,7 +184,7 @@ fn editions_get_everywhere() {
     let share = f64::from(spread.marked) / f64::from(spread.cases);
     println!("{} of {} cases are marked", spread.marked, spread.cases);
     assert!((0.3..0.4).contains(&share), "{share}");
-    for (name, counts, least) in [
+    let counted = [
         ("tables", &spread.marks, &MARKS[..]),
         ("answers", &spread.answers, &ANSWERS),
         ("explanations", &spread.explanations, &EXPLANATIONS),
@@ -183,8 +192,11 @@ fn editions_get_everywhere() {
         ("routines", &spread.both, &BOTH),
         ("wrong rules", &spread.wrong, &WRONG),
         ("wrong rules, by another ending", &spread.endings, &ENDINGS),
-    ] {
+    ];
+    for (name, counts, _) in counted {
         println!("{name}: {counts:#?}");
+    }
+    for (_, counts, least) in counted {
         more_than(counts, least);
     }
 }
@@ -263,8 +275,9 @@ const CARRIED: [(&str, u32); 25] = [
 ];
 
 /// At least so many routines.
-const BOTH: [(&str, u32); 3] = [
+const BOTH: [(&str, u32); 4] = [
     ("in both editions", 800),
+    ("run bare in both editions", 80),
     ("run in both editions", 300),
     ("run differently", 120),
 ];

@@ -50,6 +50,41 @@ fn explanations() {
 }
 
 #[test]
+fn bare_runs() {
+    assert_eq!(answer("3 0 1 1 1 0 0 1 0 6 0 0 0 0 0 0"), "done 1 ; -");
+    assert_eq!(answer("3 0 0 1 1 0 0 1 0 6 0 0 0 0 0 0"), "refused 10 0");
+    assert_eq!(answer("3 0 1 1 1 0 0 1 0 1 33"), "refused 3 0");
+    let m = "3 0 L 5 5 0 1 0 1 0 22 0 0 1 0 1 2 4 1 0 0 4 2 0 10 1 0 8 2 2 1 0 3";
+    assert_eq!(answer(&m.replace('L', "5")), "done 4 ; 2");
+    assert_eq!(answer(&m.replace('L', "3")), "noroom 0 2 ; -");
+    // `*(int*)n = 1`, in four words: those from U on are shown too.
+    let forged = "3 0 4 4 4 0 0 1 0 21 0 0 1 0 0 4 4 N 0 8 0 2 2 1 0 4 1 0 1 2 3";
+    assert_eq!(answer(&forged.replace('N', "0")), "stuck 0 1 ; -");
+    assert_eq!(answer(&forged.replace('N', "2")), "done 1 ; 0 1");
+    assert_eq!(answer(&forged.replace('N', "3")), "done 1 ; 0 0 1");
+    assert_eq!(answer(&forged.replace('N', "4")), "stuck 0 1 ; -");
+    // One input, and a register: `*(int*)9 = 1`, in five words.
+    let stuck = "3 0 5 5 5 0 2 0 6 4 1 0 1 8 \
+        23 0 0 1 0 2 2 0 4 4 9 0 8 0 2 2 1 0 4 1 0 1 2 3";
+    assert_eq!(answer(stuck), "stuck 0 4 ; 3 6 8");
+}
+
+/// LB and LE say nothing of a bare run, but are limited as ever.
+#[test]
+fn lists_that_a_bare_run_has_not() {
+    let line = |lists: &str| answer(&format!("3 0 {lists} 0 0 1 0 6 0 0 0 0 0 0"));
+    for lists in ["1 0 0", "1 2 3", "1 65537 0", "1 0 65537"] {
+        assert_eq!(line(lists), "done 1 ; -");
+    }
+    for lists in ["0 1 1", "65537 1 1", "65537 65537 65537"] {
+        assert_eq!(line(lists), "refused 10 0");
+    }
+    for lists in ["1 65538 1", "1 1 65538"] {
+        assert_eq!(line(lists), "case");
+    }
+}
+
+#[test]
 fn registers() {
     // One variable, pointer to void, and no commands.
     let line = |list: &str| answer(&format!("0 0 5 5 5 0 1 0 {list} 7 0 0 0 1 1 0 0"));
@@ -88,7 +123,8 @@ fn no_case() {
         "",
         " ",
         "x",
-        "3 0 1 1 1 0 0 1 0 6 0 0 0 0 0 0",
+        "4 0 1 1 1 0 0 1 0 6 0 0 0 0 0 0",
+        "3 1 1 1 1 0 0 1 0 6 0 0 0 0 0 0",
         "2 1 1 1 1 0 0 1 0 6 0 0 0 0 0 0",
         "0 1 1 1 1 0 0 1 0 6 0 0 0 0 0 0",
         "0 0 65538 1 1 0 0 1 0 6 0 0 0 0 0 0",

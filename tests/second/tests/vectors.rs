@@ -94,6 +94,13 @@ fn line_of(case: &Case) -> Vec<u8> {
 }
 
 #[test]
+fn cases_with_bare_runs_agree() {
+    if let Some(folder) = folder() {
+        agree(&folder, "cr9", |line| Some(line.to_vec()));
+    }
+}
+
+#[test]
 fn cases_with_editions_agree() {
     if let Some(folder) = folder() {
         agree(&folder, "cr8", |line| Some(line.to_vec()));

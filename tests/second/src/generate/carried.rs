@@ -12,7 +12,7 @@ impl Expressions<'_> {
     pub(super) fn carrying(&mut self) -> Option<[u32; 2]> {
         let weights = match self.wanted {
             Wanted::Done => [36, 26, 16, 10, 12],
-            Wanted::Abort(_) => [0, 75, 0, 25, 0],
+            Wanted::Abort(_) | Wanted::Stuck => [0, 75, 0, 25, 0],
             Wanted::NoRoom => [0, 0, 0, 0, 100],
         };
         match self.random.weighted(&weights) {
@@ -155,7 +155,9 @@ impl Expressions<'_> {
         let room = self.routine.length - self.routine.unused;
         let words = match self.wanted {
             Wanted::NoRoom => room + self.random.pick(&[1, 1, 2, 1_000]),
-            Wanted::Done | Wanted::Abort(_) => self.random.pick(&[0, 0, 1, 2, 3, 4]),
+            Wanted::Done | Wanted::Abort(_) | Wanted::Stuck => {
+                self.random.pick(&[0, 0, 1, 2, 3, 4])
+            }
         };
         let words = self.carried_number(words);
         let block = self.node(kind::MALLOC, words, 0);
@@ -258,7 +260,7 @@ impl Expressions<'_> {
             Wanted::Abort(Reason::NoBounds) => self.random.below(self.routine.unused + 1),
             Wanted::Abort(Reason::BeforeBase) => self.before(known.base, way),
             Wanted::Abort(Reason::PastEnd) => self.past(&known, way),
-            Wanted::Done | Wanted::NoRoom => {
+            Wanted::Done | Wanted::NoRoom | Wanted::Stuck => {
                 let more = (known.end - known.base).saturating_sub(way.words);
                 known.base + self.random.below(more + 1)
             }
@@ -266,10 +268,7 @@ impl Expressions<'_> {
         let goal = place.wrapping_sub(way.offset);
         let pointer = self.led_to(known, goal, INT);
         let pointer = self.node(kind::CAST, pointer, way.pointer);
-        match way.field {
-            Some(b) => self.node(kind::FIELD, pointer, b),
-            None => self.node(kind::DEREF, pointer, 0),
-        }
+        self.arrive(way, pointer)
     }
 
     /// A known value led to a word by what stands on its left and has no

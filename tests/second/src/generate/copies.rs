@@ -202,11 +202,11 @@ impl Expressions<'_> {
         let record = self.some_record().map_or(INT, |record| record.typ);
         let other = self.some_record().map_or(INT, |record| record.typ);
         let any = self.random.below(types);
-        let [first, second] = match self.random.below(5) {
+        let [first, second] = match self.random.below(6) {
             0 => [any, any],
             1 => [record, any],
             2 => [any, record],
-            3 if other != record => [record, other],
+            3 | 4 if other != record => [record, other],
             _ => [any, self.random.below(types)],
         };
         let mut children = [first, second].map(|typ| self.value(typ));

@@ -73,7 +73,7 @@ impl Expressions<'_> {
         };
         let inside = match self.wanted {
             Wanted::Abort(_) => 40,
-            Wanted::Done | Wanted::NoRoom => 95,
+            Wanted::Done | Wanted::NoRoom | Wanted::Stuck => 95,
         };
         let goal = match self.random.percent(inside) {
             true => self.random.between(known.base, known.end - 1),

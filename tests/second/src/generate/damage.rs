@@ -58,7 +58,7 @@ pub fn damage(random: &mut Random, case: &mut Case) {
     let mut cut = false;
     let mut list = false;
     for _ in 0..times {
-        match random.weighted(&[36, 44, 20, 10, 30, 24, 12]) {
+        match random.weighted(&[38, 44, 20, 10, 42, 24, 12]) {
             0 => declarations(random, case, &sections),
             1 => nodes(random, case, &sections),
             2 => commands(random, case, &sections),
@@ -90,7 +90,7 @@ pub fn mark(random: &mut Random, case: &mut Case) {
 pub fn registers(random: &mut Random, case: &mut Case) {
     let sections = Sections::of(&case.table);
     list::damage(random, case, &sections.variables(&case.table));
-    if random.percent(10) {
+    if random.percent(15) {
         call(random, case, &sections);
     }
 }

@@ -2,7 +2,7 @@
 
 use super::random::Random;
 use super::routine::{About, Routine, Wanted};
-use super::types::{INT, RECORD, VOID_POINTER};
+use super::types::{Way, INT, RECORD, VOID_POINTER};
 use crate::machine::{kind, Reason};
 
 pub struct Expressions<'r> {
@@ -31,13 +31,15 @@ impl<'r> Expressions<'r> {
 
     /// A command, or none where there is no place at all to assign to.
     pub fn command(&mut self) -> Option<[u32; 2]> {
-        let [copying, carrying] = match self.routine.about {
-            About::Anything => [4, 2],
-            About::Copies => [85, 2],
-            About::Ints => [2, 80],
+        let [copying, carrying, wild] = match self.routine.about {
+            About::Anything => [4, 2, 0],
+            About::Copies => [85, 2, 0],
+            About::Ints => [2, 80, 0],
+            About::Wild => [3, 3, 80],
         };
         let nodes = self.routine.nodes.len();
         let special = match self.led_astray() {
+            _ if self.random.percent(wild) => self.wild(),
             _ if self.random.percent(copying) => self.copying(),
             _ if self.random.percent(carrying) => self.carrying(),
             Some(reason) if self.random.percent(45) => self.stray_command(reason),
@@ -54,8 +56,9 @@ impl<'r> Expressions<'r> {
     /// bounds come about without being sought.
     fn led_astray(&self) -> Option<Reason> {
         match self.wanted {
-            Wanted::Abort(Reason::NoBounds) | Wanted::Done | Wanted::NoRoom => None,
+            Wanted::Abort(Reason::NoBounds) => None,
             Wanted::Abort(reason) => Some(reason),
+            Wanted::Done | Wanted::NoRoom | Wanted::Stuck => None,
         }
     }
 
@@ -89,6 +92,14 @@ impl<'r> Expressions<'r> {
 
     pub(super) fn constant(&mut self, word: u32) -> u32 {
         self.node(kind::CONSTANT, word, 0)
+    }
+
+    /// The place at the end of a way that begins with this pointer.
+    pub(super) fn arrive(&mut self, way: Way, pointer: u32) -> u32 {
+        match way.field {
+            Some(b) => self.node(kind::FIELD, pointer, b),
+            None => self.node(kind::DEREF, pointer, 0),
+        }
     }
 
     /// A place of type `typ`, where there can be one.
@@ -222,7 +233,7 @@ impl<'r> Expressions<'r> {
             Wanted::Abort(Reason::NoBounds) => 8,
             _ => 2,
         };
-        match self.random.weighted(&[34, 16, 16, 12, 10, 12, risk, 3]) {
+        match self.random.weighted(&[34, 16, 16, 12, 10, 12, risk, 6]) {
             0 => self.variable_with_bounds(typ),
             1 => self.moved(typ),
             2 => self.fresh(typ),
@@ -275,7 +286,7 @@ impl<'r> Expressions<'r> {
         let step = self.routine.types.step(typ);
         let most = match self.routine.about {
             About::Copies => room,
-            About::Anything | About::Ints => 20,
+            About::Anything | About::Ints | About::Wild => 20,
         };
         let row = if (2..=most).contains(&step) { 90 } else { 0 };
         let weights = [8, 45, 20, 6, greedy, row, greedy / 2];

@@ -63,7 +63,7 @@ impl Expressions<'_> {
         }
     }
 
-    fn address_of_variable(&mut self) -> Option<Known> {
+    pub(super) fn address_of_variable(&mut self) -> Option<Known> {
         let types = &self.routine.types;
         let variables = (0..).zip(&types.variables);
         let found = variables.filter_map(|(variable, &typ)| {
@@ -126,7 +126,7 @@ impl Expressions<'_> {
         found
     }
 
-    fn new_block(&mut self) -> Known {
+    pub(super) fn new_block(&mut self) -> Known {
         let words = self.random.between(1, 5);
         let unused = self.routine.unused;
         let count = self.constant(words);

@@ -19,15 +19,25 @@ pub enum Wanted {
     Done,
     Abort(Reason),
     NoRoom,
+    /// As only a bare run does.
+    Stuck,
 }
 
 impl Wanted {
     fn any(random: &mut Random) -> Wanted {
-        match random.weighted(&[33, 13, 16, 12, 26]) {
+        match random.weighted(&[32, 13, 18, 12, 33]) {
             0 => Wanted::Done,
             1 => Wanted::Abort(Reason::NoBounds),
             2 => Wanted::Abort(Reason::BeforeBase),
             3 => Wanted::Abort(Reason::PastEnd),
+            _ => Wanted::NoRoom,
+        }
+    }
+
+    fn any_of_a_bare_run(random: &mut Random) -> Wanted {
+        match random.weighted(&[34, 43, 23]) {
+            0 => Wanted::Done,
+            1 => Wanted::Stuck,
             _ => Wanted::NoRoom,
         }
     }
@@ -40,6 +50,8 @@ pub enum About {
     Copies,
     /// Ints that have bounds.
     Ints,
+    /// Words anywhere, as a bare run reaches them.
+    Wild,
 }
 
 pub struct Routine {
@@ -152,7 +164,10 @@ impl Routine {
 
     /// Adds commands that bring about some ending, and some never reached.
     pub fn end(&mut self, random: &mut Random) {
-        let wanted = Wanted::any(random);
+        let wanted = match self.about {
+            About::Wild => Wanted::any_of_a_bare_run(random),
+            About::Anything | About::Copies | About::Ints => Wanted::any(random),
+        };
         if wanted == Wanted::Done {
             return;
         }
@@ -205,7 +220,8 @@ impl Routine {
         command.is_some() && within
     }
 
-    /// Runs what there is and keeps the memory it leaves.
+    /// Runs what there is and keeps the memory it leaves. A bare run leaves the
+    /// bounds as they were at the start.
     fn trial(&mut self) -> Wanted {
         let table = self.table();
         let length = self.length as usize;
@@ -213,10 +229,16 @@ impl Routine {
             .iter_mut()
             .for_each(|list| list.resize(length, 0));
         let [values, bases, ends] = &mut self.memory;
-        let (answer, explanation) =
-            machine::explain(&table, &self.inputs, &self.registers, values, bases, ends);
+        let (inputs, registers) = (&self.inputs, &self.registers);
+        let (answer, explanation) = match self.about {
+            About::Wild => (machine::run_bare(&table, inputs, registers, values), None),
+            About::Anything | About::Copies | About::Ints => {
+                machine::explain(&table, inputs, registers, values, bases, ends)
+            }
+        };
         let (wanted, unused) = match answer {
             Answer::NoRoom { unused, .. } => (Wanted::NoRoom, unused),
+            Answer::Stuck { unused, .. } => (Wanted::Stuck, unused),
             Answer::Done { unused } | Answer::Abort { unused, .. } => (Wanted::Done, unused),
             Answer::Refused(_) => (Wanted::Done, 1),
         };

@@ -64,7 +64,7 @@ impl Expressions<'_> {
         let w = 1 + variable as usize;
         let [value, base, end] = [0, 1, 2].map(|list| self.routine.memory[list][w]);
         let outside = match self.wanted {
-            Wanted::Abort(_) => 100,
+            Wanted::Abort(_) | Wanted::Stuck => 100,
             Wanted::Done | Wanted::NoRoom => 8,
         };
         let words = end.saturating_sub(base).max(1);
@@ -103,10 +103,10 @@ impl Expressions<'_> {
             self.left -= 1;
             return self.carried_number(number);
         }
-        if !self.random.percent(15) {
+        if !self.random.percent(18) {
             return self.constant(number);
         }
-        if self.random.percent(20) {
+        if self.random.percent(30) {
             if let Some(sum) = self.number_by_a_copy(number) {
                 return sum;
             }

@@ -30,16 +30,23 @@ impl Expressions<'_> {
     }
 
     fn stray_by(&mut self, way: Way, reason: Reason) -> u32 {
-        let known = self.known();
+        let known = self.known_below(way.offset);
         let place = match reason {
             Reason::BeforeBase => self.before(known.base, way),
             _ => self.past(&known, way),
         };
         let pointer = self.led(known, place.wrapping_sub(way.offset), way.pointer);
-        match way.field {
-            Some(b) => self.node(kind::FIELD, pointer, b),
-            None => self.node(kind::DEREF, pointer, 0),
-        }
+        self.arrive(way, pointer)
+    }
+
+    /// A known value, now and then one whose bounds are so low that a field at
+    /// this offset can be above 32 bits and, modulo 2^32, in them.
+    fn known_below(&mut self, offset: u32) -> Known {
+        let low = match offset > 1 && self.random.percent(25) {
+            true => self.address_of_variable(),
+            false => None,
+        };
+        low.unwrap_or_else(|| self.known())
     }
 
     /// One of the ways, gladly to a field that is long or far from its record's
@@ -100,7 +107,7 @@ impl Expressions<'_> {
             }
             _ => (self.node(kind::READ, place, 0), own),
         };
-        for _ in 0..self.random.below(4) {
+        for _ in 0..self.random.below(5) {
             (value, own) = self.one_around(value, own);
         }
         self.cast_from(own, value, typ)

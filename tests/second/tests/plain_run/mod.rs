@@ -2,7 +2,8 @@
 //! it meets on its way, and can go about some steps wrongly on purpose: both
 //! tell what random cases are worth.
 
-use crate::plain::{refuse, Found, Table};
+use crate::plain::{Found, Table};
+use crate::plain_call::{admit, Register};
 use second::machine::{Answer, Explanation, Reason};
 use second::text::Case;
 
@@ -381,10 +382,7 @@ pub fn call(case: &Case, rules: &Rules) -> Called {
 
 fn begun(case: &Case, rules: &Rules) -> Found<Called> {
     let table = Table::check(&case.table)?;
-    admit(case, &table)?;
-    let registers = registers(&case.registers)?;
-    known_pointers(&registers, &table)?;
-    have_room(&registers, &table, case.lengths[0])?;
+    let registers = admit(case, &table, &case.lengths)?;
     let mut run = Run {
         cells: vec![[0; 3]; case.lengths[0] as usize],
         owners: (0..case.lengths[0]).collect(),
@@ -408,85 +406,4 @@ fn begun(case: &Case, rules: &Rules) -> Found<Called> {
         cells: run.cells,
         events: run.events,
     })
-}
-
-fn admit(case: &Case, table: &Table) -> Found<()> {
-    let variables = table.counts[3];
-    let [values, bases, ends] = case.lengths.map(|length| length as usize);
-    if values != bases || bases != ends || values < 1 + variables || values > 65_536 {
-        return refuse(10, 0);
-    }
-    if case.inputs.len() != variables {
-        return refuse(11, variables);
-    }
-    for (i, &input) in case.inputs.iter().enumerate() {
-        if table.word(3, i, 0) != 0 && input != 0 {
-            return refuse(11, i);
-        }
-    }
-    Ok(())
-}
-
-struct Register {
-    /// Place of the variable word in the list; the length word is next.
-    at: usize,
-    variable: u32,
-    words: Vec<u32>,
-}
-
-/// The list taken apart: refusal 13.
-fn registers(list: &[u32]) -> Found<Vec<Register>> {
-    let length = list.len();
-    if length == 0 {
-        return refuse(13, length);
-    }
-    if list[0] > 16 {
-        return refuse(13, 0);
-    }
-    let mut registers = Vec::new();
-    let mut at = 1;
-    for _ in 0..list[0] {
-        if at + 2 > length {
-            return refuse(13, length);
-        }
-        let end = at + 2 + list[at + 1] as usize;
-        if end > length {
-            return refuse(13, length);
-        }
-        registers.push(Register {
-            at,
-            variable: list[at],
-            words: list[at + 2..end].to_vec(),
-        });
-        at = end;
-    }
-    if at < length {
-        return refuse(13, at);
-    }
-    Ok(registers)
-}
-
-/// Refusal 14.
-fn known_pointers(registers: &[Register], table: &Table) -> Found<()> {
-    for (i, register) in registers.iter().enumerate() {
-        let variable = register.variable as usize;
-        let unknown = variable >= table.counts[3];
-        let before = registers[..i].iter().map(|r| r.variable);
-        let named = before.into_iter().any(|v| v == register.variable);
-        if unknown || table.word(3, variable, 0) == 0 || named {
-            return refuse(14, register.at);
-        }
-    }
-    Ok(())
-}
-
-/// Refusal 15.
-fn have_room(registers: &[Register], table: &Table, length: u32) -> Found<()> {
-    for (i, register) in registers.iter().enumerate() {
-        let words: usize = registers[..=i].iter().map(|r| r.words.len()).sum();
-        if 1 + table.counts[3] + words > length as usize {
-            return refuse(15, register.at + 1);
-        }
-    }
-    Ok(())
 }

@@ -2,7 +2,7 @@
 
 #![allow(dead_code)] // Not every test needs all endings.
 
-use second::machine::{run, Answer};
+use second::machine::{run, run_bare, Answer};
 
 /// A run on lists of `length` words, each lent with 7 in every word.
 pub struct Ran {
@@ -35,6 +35,14 @@ impl Ran {
     }
 }
 
+/// The answer of a bare run on a list of `length` words, lent with 7 in every
+/// word, and the words that it leaves.
+pub fn bare(table: &[u32], inputs: &[u32], registers: &[u32], length: usize) -> (Answer, Vec<u32>) {
+    let mut values = vec![7; length];
+    let answer = run_bare(table, inputs, registers, &mut values);
+    (answer, values)
+}
+
 pub fn done(unused: u32) -> Answer {
     Answer::Done { unused }
 }
@@ -45,6 +53,10 @@ pub fn abort(command: u32, unused: u32) -> Answer {
 
 pub fn no_room(command: u32, unused: u32) -> Answer {
     Answer::NoRoom { command, unused }
+}
+
+pub fn stuck(command: u32, unused: u32) -> Answer {
+    Answer::Stuck { command, unused }
 }
 
 /// The numbers of a text; bars are only for the eye.

@@ -1,6 +1,8 @@
 //! The starred runs of document 01 that have commands: routines over one
 //! variable p, pointer to int, in memory of 4 words.
 
+#![allow(dead_code)] // Not every test runs them with bounds.
+
 use crate::ran::Ran;
 
 #[derive(Default)]
@@ -66,14 +68,20 @@ impl Routine {
         self
     }
 
-    /// A run in the edition of the words that stand before the sections.
-    pub fn run(&self, front: &[u32]) -> Ran {
+    /// The words of the table, in the edition of those that stand before the
+    /// sections.
+    pub fn table(&self, front: &[u32]) -> Vec<u32> {
         let mut table = [front, &HEAD].concat();
         table.push(self.nodes.len() as u32 / 3);
         table.extend(&self.nodes);
         table.push(self.commands.len() as u32 / 2);
         table.extend(&self.commands);
-        Ran::new(&table, &[0], &[0], 4)
+        table
+    }
+
+    /// A run in that edition.
+    pub fn run(&self, front: &[u32]) -> Ran {
+        Ran::new(&self.table(front), &[0], &[0], 4)
     }
 }
 

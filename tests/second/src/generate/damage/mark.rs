@@ -25,7 +25,7 @@ pub fn damage(random: &mut Random, table: &mut Vec<u32>) {
 /// and after the edition. Of other editions some end as 2 does in few bits.
 fn front(random: &mut Random) -> Vec<u32> {
     let other = random.pick(&[0, 0, 1, 1, 3, 3, 4, MARK, MARK, 258, 65_538, MARK - 1]);
-    match random.weighted(&[17, 32, 7, 12, 11, 11, 4, 6]) {
+    match random.weighted(&[19, 32, 7, 12, 11, 11, 4, 6]) {
         0 => vec![MARK],
         1 => vec![MARK, other],
         2 => vec![MARK, random.word()],
