@@ -9,8 +9,8 @@ from .errors import Stop, Usage
 DESCRIPTION = "Runs short C routines on a proved machine that tracks the bounds of every pointer."
 EXITS = """exit status:
   0  done, or the table passes     3  refused, or faulty C
-  1  abort                         64 bad use
-  2  no room"""
+  1  abort                         4  stuck, of a bare run
+  2  no room                       64 bad use"""
 # What each command does, and an example of it.
 COMMANDS = {
     "run": (
@@ -72,7 +72,12 @@ def add_arguments(one, name):
             help="words for the pointer NAME, or a file of them: NAME=@FILE; several can follow",
         )
     if name == "run":
-        one.add_argument("--raw", action="store_true", help="print what the bench program prints")
+        one.add_argument("--bare", action="store_true", help="run without bounds, as old controllers do, and compare with the fenced run")
+        one.add_argument(
+            "--raw",
+            action="store_true",
+            help="print what the bench program prints; with --bare address and value alone, of all words up to the last that is in use or not 0",
+        )
     if name in ("report", "build"):
         one.add_argument("-o", metavar="FILE", dest="output", help="write to FILE")
     if name == "build":

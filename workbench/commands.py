@@ -1,6 +1,7 @@
 """The commands of `mavis`: from options to lines and an exit status."""
 
 from .arguments import edition, inputs_of, memory_length, read_file, registers_of
+from .bare import bare_lines
 from .copies import told_apart
 from .endings import Ending
 from .errors import REFUSED, Faulty, Usage
@@ -16,7 +17,7 @@ from .source import Source
 from .text import MEMORY, bench_text, read_text
 from .translate import translate
 
-STATUS = {"done": 0, "abort": 1, "noroom": 2, "refused": REFUSED}
+STATUS = {"done": 0, "abort": 1, "noroom": 2, "refused": REFUSED, "stuck": 4}
 
 
 def run(options):
@@ -29,16 +30,21 @@ def run(options):
             raise
         print("input")
         return REFUSED
-    (answer,) = machine.explain([call])
+    (answer,) = machine.bare([call]) if options.bare else machine.explain([call])
     if options.raw:
         print("\n".join(raw_lines(answer)))
     elif answer.ending == "refused":
         print(shown_refusal(routine, text, call, answer))
     else:
-        answer = told_apart(machine, call, answer)
-        regions = Regions(routine, machine, call, answer)
-        print("\n".join(Ending(routine, machine, call, answer, regions).lines() + memory_lines(regions, routine)))
+        print("\n".join((bare_lines if options.bare else fenced_lines)(routine, machine, call, answer)))
     return STATUS[answer.ending]
+
+
+def fenced_lines(routine, machine, call, answer):
+    """The answer of a run with bounds, in lines."""
+    answer = told_apart(machine, call, answer)
+    regions = Regions(routine, machine, call, answer)
+    return Ending(routine, machine, call, answer, regions).lines() + memory_lines(regions, routine)
 
 
 def is_c(path):
@@ -86,10 +92,10 @@ def report(options):
 
 
 def raw_lines(answer):
-    """What the bench program prints."""
+    """What the bench program prints; of a bare run the same without bounds."""
     numbers = (answer.command, answer.unused, answer.number, answer.place)
     lines = [" ".join([answer.ending, *(str(number) for number in numbers if number is not None)])]
-    return lines + [f"{at} {value} {base} {end}" for at, (value, base, end) in enumerate(answer.words) if at]
+    return lines + [" ".join(map(str, [at, *word])) for at, word in enumerate(answer.words) if at]
 
 
 def check(options):

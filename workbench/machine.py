@@ -17,7 +17,7 @@ ROOT = Path(__file__).resolve().parent.parent
 PROGRAM = "replay"
 LONGEST = 65536  # words of memory that a call can have
 LIST = 70000  # words of a register list that the program takes
-CHECK, EXPLAIN = 1, 2  # calls: the check alone; a run with its explanation
+CHECK, EXPLAIN, BARE = 1, 2, 3  # calls: the check alone; a run with its explanation; a bare run
 
 
 @dataclass(frozen=True)
@@ -36,7 +36,8 @@ class Cause:
 
 @dataclass(frozen=True)
 class Answer:
-    """How a call ended. `words` has value, base and end of each word from 0 to the last one in use."""
+    """How a call ended. `words` has value, base and end of each word from 0 to the last one in use. Of a bare run it has the value alone, and
+    goes on to the last word that is not 0."""
 
     ending: str
     command: int = None
@@ -56,9 +57,9 @@ class Call:
     inputs: list
     registers: list = (0,)
 
-    def line(self):
+    def line(self, kind):
         lists = [len(self.inputs), *self.inputs, len(self.registers), *self.registers, len(self.table), *self.table]
-        return " ".join(map(str, [EXPLAIN, 0, self.memory, self.memory, self.memory, 0, *lists]))
+        return " ".join(map(str, [kind, 0, self.memory, self.memory, self.memory, 0, *lists]))
 
 
 def crates_below(name):
@@ -141,10 +142,18 @@ class Machine:
 
     def explain(self, calls):
         """Runs each call, and explains the runs that abort."""
+        return self.run(EXPLAIN, calls)
+
+    def bare(self, calls):
+        """Runs each call without bounds."""
+        return self.run(BARE, calls)
+
+    def run(self, kind, calls):
+        """The answers to calls of a kind."""
         for call in calls:
             if len(call.registers) > LIST:
                 raise Usage(f"mavis: registers of {len(call.registers)} words; the memory has at most {LONGEST}")
-        return [answer_of(line) for line in self.ask([call.line() for call in calls])]
+        return [answer_of(line) for line in self.ask([call.line(kind) for call in calls])]
 
     def check(self, table):
         """None if the table passes, else its refusal."""
@@ -159,7 +168,9 @@ def answer_of(line):
     numbers = [int(number) for number in numbers]
     if word == "refused":
         return Answer(word, number=numbers[0], place=numbers[1])
-    command = numbers[0] if word != "done" else None
+    command, unused = numbers[0] if word != "done" else None, numbers[-1]
     memory = [] if rest[0] == "-" else [tuple(map(int, entry.split(":"))) for entry in rest[0].split(" ")]
+    if len(rest) == 1:  # a bare run: of the words in use, the last ones are not told where they are 0
+        return Answer(word, command, unused, words=[(0,)] + memory + [(0,)] * (unused - 1 - len(memory)))
     cause = None if rest[1] == "none" else Cause(*map(int, rest[1].split(" ")))
-    return Answer(word, command, numbers[-1], words=[(0, 0, 0)] + memory, cause=cause)
+    return Answer(word, command, unused, words=[(0, 0, 0)] + memory, cause=cause)

@@ -1,4 +1,5 @@
-"""Memory after a run as lines: every word with its name and value; a pointer, and an int that has bounds, with what it leads to and these."""
+"""Memory after a run as lines: every word with its name and value; a pointer, and an int that has bounds, with what it leads to and these. Words
+of a bare run have no bounds."""
 
 from .table import INT
 from .wording import counted
@@ -31,7 +32,7 @@ def region_rows(regions, region):
     """The words of a region as rows of address, name, value and note; clear words in a row are folded."""
     rows, run = [], []
     for word in range(region.start, region.end):
-        if regions.words[word] == (0, 0, 0):
+        if not any(regions.words[word]):
             run.append(word)
             continue
         rows += clear_rows(regions, region, run) + [word_row(regions, region, word)]
@@ -48,8 +49,9 @@ def clear_rows(regions, region, run):
 
 def word_row(regions, region, word):
     name, type, _ = regions.at(region, word)
-    value, base, end = regions.words[word]
-    return str(word), name or region.name, str(value), note(regions, type, value, base, end)
+    value, *bounds = regions.words[word]
+    told = note(regions, type, value, *bounds) if bounds else bare_note(regions, type, value)
+    return str(word), name or region.name, str(value), told
 
 
 def leads(regions, type, end):
@@ -68,6 +70,13 @@ def note(regions, type, value, base, end):
         return "null" if value == 0 else "no bounds"
     outside = "" if base <= value < end else "outside its "
     return f"-> {regions.word_name(value, type) or 'no word in use'}, {outside}{bounds}"
+
+
+def bare_note(regions, type, value):
+    """What stands at the word that a pointer's value is the number of."""
+    if type in (None, INT):
+        return ""
+    return f"-> {regions.word_name(value, type) or 'no word in use'}" if value else "null"
 
 
 def aligned(rows):

@@ -1,5 +1,6 @@
 """Memory after a run, in its parts: variables, registers and blocks, with a name for each word."""
 
+from copy import copy
 from dataclasses import dataclass, replace
 
 from .table import CAST, MALLOC, RECORD
@@ -30,6 +31,12 @@ class Regions:
         self.words = answer.words
         self.all = self.variables() + self.registers(call.registers)
         self.all += self.typed(obtained(machine, call, answer, self.all[-1].end if self.all else 1))
+
+    def carried_on(self, words, further):
+        """The regions of a run that goes on where this one ended, by the words that it leaves and what it obtains further."""
+        later = copy(self)
+        later.words, later.all = words, self.all + further
+        return later
 
     def variables(self):
         types = self.table.variables

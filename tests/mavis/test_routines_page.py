@@ -4,6 +4,7 @@ import dataclasses
 import unittest
 
 from pages import ROOT, Page, codes, mavis, numbers
+from workbench.bare import bare_lines
 from workbench.commands import raw_lines
 from workbench.endings import BEFORE_BASE, NO_BOUNDS
 from workbench.machine import Call, Machine
@@ -20,9 +21,15 @@ NO_CAST = "nocast"  # its table lacks a cast that the translation makes
 
 
 def listed():
-    """The rows of the page's three tables: routines without registers, with them, and of edition 2."""
+    """The rows of the page's first three tables: routines without registers, with them, and of edition 2."""
     columns = "Shows | Ends | Wanted"
     return [PAGE.rows("Routines", f"Routine | {each}") for each in (columns, f"Registers | {columns}", f"{columns} | In edition 1")]
+
+
+def ended():
+    """The rows of all routines, each up to how it ends and what it wanted."""
+    plain, with_registers, edition_2 = listed()
+    return plain + with_registers + [row[:-1] for row in edition_2]
 
 
 def names(suffix):
@@ -75,13 +82,22 @@ def without(table, node):
     return Table(table.records, table.fields, table.pointers, table.variables, nodes, commands)
 
 
+def bare(name):
+    """How a routine ends without bounds, and what the fenced run is said to do."""
+    made = of_c(name)
+    called = call(name, made.table)
+    (answer,) = MACHINE.bare([called])
+    (line,) = [line for line in bare_lines(made, MACHINE, called, answer) if line.startswith("  fenced: ")]
+    return raw_lines(answer)[0], line.removeprefix("  fenced: ")
+
+
 class RoutinesPage(unittest.TestCase):
-    """The page's three tables."""
+    """The page's tables."""
 
     def test_every_routine_is_listed_once(self):
         plain, with_registers, edition_2 = listed()
         self.assertEqual([16, 7, 2], list(map(len, listed())))
-        self.assertEqual(3, len(PAGE.grids))
+        self.assertEqual(4, len(PAGE.grids))
         for suffix in ("c", "txt", "out"):
             with self.subTest(suffix):
                 self.assertEqual(sorted(row[0] for row in plain + with_registers + edition_2), names(suffix))
@@ -93,8 +109,7 @@ class RoutinesPage(unittest.TestCase):
         self.assertEqual(["README.md", "build", "call.awk", "prove", "run"], sorted(others))
 
     def test_ends_and_wanted(self):
-        plain, with_registers, edition_2 = listed()
-        rows = plain + with_registers + [row[:-1] for row in edition_2]
+        rows = ended()
         for row, answer in zip(rows, MACHINE.explain([call(row[0]) for row in rows])):
             with self.subTest(row[0]):
                 self.assertEqual(codes(row[-2]), raw_lines(answer)[:1])
@@ -107,6 +122,21 @@ class RoutinesPage(unittest.TestCase):
         for row, answer in zip(rows, MACHINE.explain(unmarked)):
             with self.subTest(row[0]):
                 self.assertEqual(codes(row[-1]), raw_lines(answer)[:1])
+
+    def test_bare(self):
+        """How those end that abort with bounds, in the same order, and what differs then. The others have the same result."""
+        ends = {row[0]: codes(row[-2])[0] for row in ended()}
+        aborts = [name for name, end in ends.items() if end.startswith("abort ")]
+        rows = PAGE.rows("Routines", "Routine | Ends bare | Words that differ")
+        self.assertEqual(aborts, [row[0] for row in rows])
+        for name, end, differ in rows:
+            with self.subTest(name):
+                told = f"words that differ: {differ}" if differ else "no word differs"
+                answer, compared = bare(name)
+                self.assertEqual((f"`{answer}`", compared.partition("; ")[2]), (end, told))
+        for name in ends.keys() - aborts - {NO_CAST}:
+            with self.subTest(name):
+                self.assertEqual((ends[name], "the same result"), bare(name))
 
 
 class Routines(unittest.TestCase):

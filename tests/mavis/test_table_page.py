@@ -15,6 +15,7 @@ from workbench.machine import Call
 from workbench.table import ADDRESS, CAST, COPY, DEREF, EDITIONS, FIELD, FIRST_POINTER, INT, KIND_NAMES, MALLOC, OPERANDS, PLACE, RECORD
 from workbench.table import SECTIONS, SUM, VALUE, VARIABLE, VOID_POINTER, WORD, Spot, Table, spot
 
+FENCED = [ending for ending in STATUS if ending != "stuck"]  # a bare run alone is stuck
 # Every table of the page, by its heading and its columns, with its number of rows. Where rows are examples, each of them is run: a row that
 # is no longer read, or a new one, fails here.
 ROWS = {
@@ -305,13 +306,13 @@ class Editions(unittest.TestCase):
 class Endings(unittest.TestCase):
     def test_endings(self):
         rows = PAGE.rows("Endings", "Ending | When | Answered | The three lists")
-        self.assertEqual(list(STATUS), [code for row in rows for code in codes(row[0])])
+        self.assertEqual(FENCED, [code for row in rows for code in codes(row[0])])
 
     def test_first_lines(self):
         """The forms of an answer: its word, and as many numbers as all such answers on the page have."""
         (lines,) = PAGE.shown("The bench text")
         answers = re.findall(r"`((?:done|abort|noroom|refused) [\d ]+)`", "\n".join(PAGE.lines))
-        self.assertEqual(list(STATUS), [line.split()[0] for line in lines])
+        self.assertEqual(FENCED, [line.split()[0] for line in lines])
         self.assertEqual(
             {(line.split()[0], len(line.split())) for line in lines}, {(line.split()[0], len(line.split())) for line in answers}
         )
