@@ -1,6 +1,6 @@
 //! Links the proved library: the archive that CAPI names, or the one that
-//! `rt staticlib capi` writes, and beside it the one that EXPLAIN names. Only
-//! with the latter the program is built with `explains`.
+//! `rt staticlib capi` writes, and beside it those that EXPLAIN and BARE name,
+//! each for one more call.
 
 use std::env;
 use std::path::PathBuf;
@@ -8,14 +8,20 @@ use std::path::PathBuf;
 fn main() {
     let here = PathBuf::from(env::var_os("CARGO_MANIFEST_DIR").expect("cargo sets this"));
     let built = here.join("../target/staticlib/libcapi.a");
-    link(env::var_os("CAPI").map_or(built, PathBuf::from));
-    println!("cargo:rustc-check-cfg=cfg(explains)");
-    if let Some(archive) = env::var_os("EXPLAIN").filter(|name| !name.is_empty()) {
-        link(PathBuf::from(archive));
-        println!("cargo:rustc-cfg=explains");
-    }
     println!("cargo:rerun-if-env-changed=CAPI");
-    println!("cargo:rerun-if-env-changed=EXPLAIN");
+    link(env::var_os("CAPI").map_or(built, PathBuf::from));
+    link_if_named("EXPLAIN", "explains");
+    link_if_named("BARE", "runs_bare");
+}
+
+/// Only with the archive the program is built with `cfg`.
+fn link_if_named(variable: &str, cfg: &str) {
+    println!("cargo:rerun-if-env-changed={variable}");
+    println!("cargo:rustc-check-cfg=cfg({cfg})");
+    if let Some(archive) = env::var_os(variable).filter(|name| !name.is_empty()) {
+        link(PathBuf::from(archive));
+        println!("cargo:rustc-cfg={cfg}");
+    }
 }
 
 fn link(archive: PathBuf) {

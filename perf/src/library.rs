@@ -45,13 +45,16 @@ pub struct Explanation {
     pub first: u32,
 }
 
-/// Whether the archive can explain; build.rs has looked.
+/// Whether there is an archive that explains, and one with the bare run;
+/// build.rs has looked.
 pub const EXPLAINS: bool = cfg!(explains);
+pub const RUNS_BARE: bool = cfg!(runs_bare);
 
 const REFUSED: u32 = 0;
 const DONE: u32 = 1;
 const ABORT: u32 = 2;
 const NO_ROOM: u32 = 3;
+const STUCK: u32 = 4;
 
 extern "C" {
     fn mavistable_check(table: *const u32, length: usize) -> Verdict;
@@ -86,6 +89,18 @@ extern "C" {
         ends: *mut u32,
         ends_length: usize,
     ) -> Explanation;
+
+    #[cfg(runs_bare)]
+    fn mavistable_run_bare(
+        table: *const u32,
+        table_length: usize,
+        inputs: *const u32,
+        input_count: usize,
+        registers: *const u32,
+        registers_length: usize,
+        values: *mut u32,
+        values_length: usize,
+    ) -> Answer;
 }
 
 pub fn check(table: &[u32]) -> Verdict {
@@ -158,7 +173,30 @@ pub fn explain(
     _: &mut [u32],
     _: &mut [u32],
 ) -> Explanation {
-    unreachable!("the archive has no mavistable_explain")
+    unreachable!("there is no mavistable_explain")
+}
+
+#[cfg(runs_bare)]
+pub fn run_bare(table: &[u32], inputs: &[u32], registers: &[u32], values: &mut [u32]) -> Answer {
+    // SAFETY: as for the run.
+    unsafe {
+        mavistable_run_bare(
+            table.as_ptr(),
+            table.len(),
+            inputs.as_ptr(),
+            inputs.len(),
+            registers.as_ptr(),
+            registers.len(),
+            values.as_mut_ptr(),
+            values.len(),
+        )
+    }
+}
+
+/// As above.
+#[cfg(not(runs_bare))]
+pub fn run_bare(_: &[u32], _: &[u32], _: &[u32], _: &mut [u32]) -> Answer {
+    unreachable!("there is no mavistable_run_bare")
 }
 
 // The second's answers in the library's form, to be compared word by word.
@@ -199,6 +237,12 @@ impl From<machine::Answer> for Answer {
             },
             machine::Answer::NoRoom { command, unused } => Answer {
                 ending: NO_ROOM,
+                command,
+                unused,
+                ..none
+            },
+            machine::Answer::Stuck { command, unused } => Answer {
+                ending: STUCK,
                 command,
                 unused,
                 ..none

@@ -17,12 +17,12 @@ mod time;
 mod verify;
 mod workload;
 
-use report::Measured;
+use report::{Line, Measured};
 use rows::Row;
 use side::{acts, parts, repeat, Costs, Lists, Side, SIDES};
 use std::process::{Command, ExitCode};
 use std::time::Duration;
-use time::Times;
+use time::RowTimes;
 
 const USAGE: &str = "usage: perf report FILE [--quick] PROGRAM... | perf time [--quick] | \
 perf spin SIDE ACT ROW CALLS | perf count";
@@ -70,42 +70,49 @@ fn report(file: &str, quick: bool, programs: &[&str]) -> Result<(), String> {
     let rows = rows::all(quick);
     verify::rows(&rows)?;
     let cases: usize = rows.iter().map(|row| row.cases.len()).sum();
-    println!("{cases} tables: both sides give the same verdicts, answers and memories.\n");
+    println!("{cases} tables: both sides give the same verdicts, answers and memories.");
+    if library::RUNS_BARE {
+        println!("Bare runs end as the fenced ones that do not abort, with the same values.");
+    }
     let count_plan = count_plan(quick);
     let how = how_measured(&time_plan(quick), count_plan.as_ref(), programs.len());
-    println!("{how}\n{}", report::heading());
+    println!("\n{how}\n{}", report::heading(report::SIDES));
 
     let layouts: Result<Vec<_>, _> = programs
         .iter()
         .map(|program| times_of(program, quick, &rows))
         .collect();
     let layouts = layouts?;
-    let mut lines = Vec::new();
+    let mut all = Vec::new();
     for (i, row) in rows.iter().enumerate() {
         let layouts = layouts.iter().map(|times| times[i]).collect();
-        lines.extend(measured(row, layouts, count_plan.as_ref())?);
+        all.push(measured(row, layouts, count_plan.as_ref())?);
     }
+    let lines: Vec<Line> = all.iter().flat_map(Measured::lines).collect();
     println!("\n{}", report::summary(&lines));
+    if library::RUNS_BARE {
+        let lines: Vec<Line> = all.iter().flat_map(Measured::fenced_lines).collect();
+        println!("{}", report::beside_bare(&lines));
+    }
     save(file, &how, &lines)
 }
 
 /// Counts a row's instructions and prints its lines.
 fn measured<'r>(
     row: &'r Row,
-    layouts: Vec<Times>,
+    layouts: Vec<RowTimes>,
     plan: Option<&count::Plan>,
-) -> Result<Vec<report::Line<'r>>, String> {
+) -> Result<Measured<'r>, String> {
     let counts = plan.map(|plan| both_sides(row, plan));
-    let lines = Measured {
+    let measured = Measured {
         row,
         layouts,
         counts: counts.transpose()?,
+    };
+    for line in measured.lines() {
+        println!("{}", report::text(&line));
     }
-    .lines();
-    for line in &lines {
-        println!("{}", report::text(line));
-    }
-    Ok(lines)
+    Ok(measured)
 }
 
 fn both_sides(row: &Row, plan: &count::Plan) -> Result<Costs, String> {
@@ -122,7 +129,11 @@ fn how_measured(time: &time::Plan, count: Option<&count::Plan>, layouts: usize) 
     };
     let explained = match library::EXPLAINS {
         true => "whole call that tells why the run aborted; in the rows 'abort' it did",
-        false => "left out, as the library has no mavistable_explain",
+        false => "left out, as there is no mavistable_explain",
+    };
+    let bare = match library::RUNS_BARE {
+        true => "whole call of the run without bounds, which has one list",
+        false => "left out, as there is no mavistable_run_bare",
     };
     format!(
         "ns: mean of {layouts} layouts of the code, in each the median of {rounds} rounds, the two sides by turns\n\
@@ -131,6 +142,7 @@ fn how_measured(time: &time::Plan, count: Option<&count::Plan>, layouts: usize) 
          instructions: {counted}\n\
          run: whole call less check, on both sides; the call clears the three lists\n\
          explain: {explained}\n\
+         bare: {bare}\n\
          processor: {}\n",
         processor()
     )
@@ -143,7 +155,7 @@ fn processor() -> String {
     model.map_or("not known", |(_, name)| name).to_string()
 }
 
-fn save(file: &str, how: &str, lines: &[report::Line]) -> Result<(), String> {
+fn save(file: &str, how: &str, lines: &[Line]) -> Result<(), String> {
     let mut text: String = how.lines().map(|line| format!("# {line}\n")).collect();
     text += report::SAVED_HEADING;
     text.extend(lines.iter().map(report::saved));
@@ -151,14 +163,14 @@ fn save(file: &str, how: &str, lines: &[report::Line]) -> Result<(), String> {
 }
 
 /// The times that a program takes, one line a row.
-fn times_of(program: &str, quick: bool, rows: &[Row]) -> Result<Vec<Times>, String> {
+fn times_of(program: &str, quick: bool, rows: &[Row]) -> Result<Vec<RowTimes>, String> {
     let output = Command::new(program)
         .arg("time")
         .args(quick.then_some("--quick"))
         .output()
         .map_err(|error| format!("{program}: {error}"))?;
     let text = String::from_utf8_lossy(&output.stdout);
-    let times: Vec<Times> = text.lines().filter_map(Times::from_line).collect();
+    let times: Vec<RowTimes> = text.lines().filter_map(RowTimes::from_line).collect();
     match output.status.success() && times.len() == rows.len() {
         true => Ok(times),
         false => Err(format!(
@@ -177,8 +189,8 @@ fn take_times(quick: bool) -> Result<(), String> {
     Ok(())
 }
 
-/// A line for each row and part: group, name, part, instructions, parted by
-/// tabs. A library from before there were copies, or marks, has the one part
+/// A line for each row and part: group, name, part, instructions, nodes, parted
+/// by tabs. A library from before there were copies, or marks, has the one part
 /// `refused` in the rows with some, and there what it refuses.
 fn count_library() -> Result<(), String> {
     let plan = count_plan(false).ok_or("there is no valgrind to count with")?;
@@ -190,7 +202,8 @@ fn count_library() -> Result<(), String> {
         let costs = count::measure(Side::Library, row, &plan)?;
         for part in parts() {
             let cost = part.of_side(costs);
-            println!("{}\t{}\t{}\t{cost:.1}", row.group, row.name, part.name());
+            let (group, name, part, nodes) = (row.group, &row.name, part.name(), row.nodes);
+            println!("{group}\t{name}\t{part}\t{cost:.1}\t{nodes}");
         }
     }
     for row in &refused {

@@ -1,30 +1,60 @@
-//! The printed table, the summary and the saved results.
+//! The printed tables, their summaries and the saved results.
 
 use crate::rows::Row;
-use crate::side::{parts, Costs, Part};
-use crate::time::{least, Times};
+use crate::side::{fenced_and_bare, parts, Costs, Part, ACTS};
+use crate::time::{least, RowTimes, Times};
 
 /// What was measured of a row: times in each layout, and instructions.
 pub struct Measured<'r> {
     pub row: &'r Row,
-    pub layouts: Vec<Times>,
+    pub layouts: Vec<RowTimes>,
     pub counts: Option<Costs>,
 }
 
-/// The library's and the second's.
-type Pair = [f64; 2];
+impl<'r> Measured<'r> {
+    /// The library beside the second.
+    pub fn lines(&self) -> Vec<Line<'r>> {
+        let sides = self.compared(|times| times.sides, self.counts);
+        parts().map(|part| sides.line(part)).collect()
+    }
 
-fn quotient([library, second]: Pair) -> f64 {
-    library / second
+    /// The library's fenced run beside its bare one.
+    pub fn fenced_lines(&self) -> [Line<'r>; 2] {
+        let counts = self.counts.map(|[library, _]| fenced_and_bare(library));
+        let runs = self.compared(|times| times.bare, counts);
+        FENCED.map(|part| runs.line(part))
+    }
+
+    fn compared(&self, of: fn(&RowTimes) -> Times, counts: Option<Costs>) -> Compared<'r> {
+        Compared {
+            row: self.row,
+            layouts: self.layouts.iter().map(of).collect(),
+            counts,
+        }
+    }
 }
 
-/// One line of the table.
+/// What was measured of the two sides that a table compares.
+struct Compared<'r> {
+    row: &'r Row,
+    layouts: Vec<Times>,
+    counts: Option<Costs>,
+}
+
+/// Of both sides.
+type Pair = [f64; 2];
+
+fn quotient([a, b]: Pair) -> f64 {
+    a / b
+}
+
+/// One line of a table.
 pub struct Line<'r> {
     row: &'r Row,
     part: Part,
     /// Mean over the layouts.
     ns: Pair,
-    /// Library / second in time: geometric mean, least and greatest of the
+    /// One side / the other in time: geometric mean, least and greatest of the
     /// layouts.
     ratio: f64,
     range: [f64; 2],
@@ -33,11 +63,7 @@ pub struct Line<'r> {
     instructions: Option<Pair>,
 }
 
-impl<'r> Measured<'r> {
-    pub fn lines(&self) -> Vec<Line<'r>> {
-        parts().map(|part| self.line(part)).collect()
-    }
-
+impl<'r> Compared<'r> {
     fn line(&self, part: Part) -> Line<'r> {
         let ratios = self.over_layouts(|times| times.ratios[part as usize]);
         Line {
@@ -60,9 +86,9 @@ impl<'r> Measured<'r> {
 
     /// One number for all layouts, for each side and act.
     fn each_cost(&self, costs: fn(&Times) -> Costs, one: fn(Vec<f64>) -> f64) -> Costs {
-        [0, 1].map(|side| {
-            [0, 1, 2].map(|act| one(self.over_layouts(|times| costs(times)[side][act])))
-        })
+        let each =
+            |side: usize, act: usize| one(self.over_layouts(|times| costs(times)[side][act]));
+        [0, 1].map(|side| ACTS.map(|act| each(side, act as usize)))
     }
 }
 
@@ -78,10 +104,13 @@ fn geometric_mean(ratios: &[f64]) -> f64 {
 /// How many letters there is room for in the name of a row.
 const NAME: usize = 28;
 
-/// Heads of the table's columns.
-pub fn heading() -> String {
-    let sides = "|   library    second  ratio ";
-    let a_node = "|  library   second ";
+pub const SIDES: [&str; 2] = ["library", "second"];
+const RUNS: [&str; 2] = ["fenced", "bare"];
+
+/// Heads of a table's columns.
+pub fn heading([a, b]: [&str; 2]) -> String {
+    let sides = format!("|{a:>10}{b:>10}  ratio ");
+    let a_node = format!("|{a:>9}{b:>9} ");
     let first = format!(
         "{:<NAME$}{:>6} {:<8}| {:<48}| {:<18}| {:<27}| {:<18}",
         "row", "nodes", "act", "ns a call", "ns a node", "instructions a call", "instr. a node"
@@ -113,16 +142,16 @@ pub fn text(line: &Line) -> String {
     )
 }
 
-fn sides_text([library, second]: Pair, ratio: f64) -> String {
-    format!("|{library:>10.1}{second:>10.1}{ratio:>7.2} ")
+fn sides_text([a, b]: Pair, ratio: f64) -> String {
+    format!("|{a:>10.1}{b:>10.1}{ratio:>7.2} ")
 }
 
 fn a_node_text(pair: Pair, nodes: f64) -> String {
-    let [library, second] = pair.map(|cost| match nodes > 0.0 {
+    let [a, b] = pair.map(|cost| match nodes > 0.0 {
         true => format!("{:.2}", cost / nodes),
         false => "-".into(),
     });
-    format!("|{library:>9}{second:>9} ")
+    format!("|{a:>9}{b:>9} ")
 }
 
 /// A number of a line, where it was measured.
@@ -143,22 +172,16 @@ const COSTS: [(&str, Quantity<Pair>); 3] = [
 /// Mean ratios over all shapes that have nodes, what a node more costs, what a
 /// word copied costs, and what explaining costs beside the call.
 pub fn summary(lines: &[Line]) -> String {
-    let ratios = RATIOS.map(|(name, quantity)| {
-        summary_line(name, |part| {
-            let mean = mean_ratio(lines, part, quantity)?;
-            Some(format!("{mean:.2}"))
-        })
-    });
     let costs = COSTS.map(|(name, quantity)| {
-        summary_line(name, |part| {
+        summary_line(name, parts(), |part| {
             let [library, second] = node_more(lines, part, quantity)?;
             Some(format!("{library:.2} and {second:.2}"))
         })
     });
     format!(
-        "Ratio, geometric mean over the rows before 'registers' that have nodes:\n{}\
+        "Ratio, geometric mean over {SHAPES}:\n{}\
          Cost of a node more, from the first to the last row of 'growth', library and second:\n{}{}{}",
-        ratios.concat(),
+        mean_ratios(lines, parts, of_shapes),
         costs.concat(),
         copying(lines).unwrap_or_default(),
         explaining(lines).unwrap_or_default()
@@ -222,20 +245,61 @@ fn explaining(lines: &[Line]) -> Option<String> {
     })
 }
 
-fn summary_line(name: &str, cell: impl Fn(Part) -> Option<String>) -> String {
-    let cells = parts().map(|part| {
+/// The parts that the fenced run and the bare one are compared in.
+const FENCED: [Part; 2] = [Part::Call, Part::Run];
+
+/// The library's fenced run beside its bare one: a table of its own, with the
+/// mean ratios over all shapes that have nodes, and over all rows.
+pub fn beside_bare(lines: &[Line]) -> String {
+    let rows: Vec<String> = lines.iter().map(text).collect();
+    let means = |rows| mean_ratios(lines, || FENCED.into_iter(), rows);
+    format!(
+        "Fenced / bare: the library's run with bounds beside its run without, measured as above.\n\
+         Both are interpretation: a bare run reads the table too, and is no compiled routine.\n\
+         run: whole call less check, of both\n\n{}\n{}\n\n\
+         Fenced / bare, geometric mean over {SHAPES}:\n{}\
+         Over all rows:\n{}",
+        heading(RUNS),
+        rows.join("\n"),
+        means(of_shapes),
+        means(|_| true)
+    )
+}
+
+/// A line for each kind of ratio, with the means over some of the rows.
+fn mean_ratios<P: Iterator<Item = Part>>(
+    lines: &[Line],
+    parts: impl Fn() -> P,
+    rows: fn(&Row) -> bool,
+) -> String {
+    let lines = RATIOS.map(|(name, quantity)| {
+        summary_line(name, parts(), |part| {
+            let lines = lines.iter().filter(|line| line.part == part);
+            let lines = lines.filter(|line| rows(line.row));
+            let ratios: Option<Vec<f64>> = lines.map(quantity).collect();
+            Some(format!("{:.2}", geometric_mean(&ratios?)))
+        })
+    });
+    lines.concat()
+}
+
+const SHAPES: &str = "the rows before 'registers' that have nodes";
+
+fn of_shapes(row: &Row) -> bool {
+    row.group == "shape" && row.nodes > 0.0
+}
+
+fn summary_line(
+    name: &str,
+    parts: impl Iterator<Item = Part>,
+    cell: impl Fn(Part) -> Option<String>,
+) -> String {
+    let cells = parts.map(|part| {
         let cell = cell(part).unwrap_or("not counted".into());
         format!("  {} {cell:<16}", part.name())
     });
     let cells: String = cells.collect();
     format!("  {name:<16}{}\n", cells.trim_end())
-}
-
-fn mean_ratio(lines: &[Line], part: Part, quantity: Quantity<f64>) -> Option<f64> {
-    let lines = lines.iter().filter(|line| line.part == part);
-    let lines = lines.filter(|line| line.row.group == "shape" && line.row.nodes > 0.0);
-    let ratios: Option<Vec<f64>> = lines.map(quantity).collect();
-    Some(geometric_mean(&ratios?))
 }
 
 fn node_more(lines: &[Line], part: Part, quantity: Quantity<Pair>) -> Option<Pair> {

@@ -1,9 +1,9 @@
 //! Both sides must agree on every case before anything is measured.
 
-use crate::library::EXPLAINS;
+use crate::library::{Answer, EXPLAINS, RUNS_BARE};
 use crate::routine::MARK;
 use crate::rows::{Case, Row};
-use crate::side::{call, check, explain, Lists, Side, SIDES};
+use crate::side::{bare, call, check, explain, Lists, Side, SIDES};
 use second::machine::kind;
 use std::fmt::Debug;
 
@@ -47,12 +47,35 @@ fn agrees(case: &Case, row: &Row) -> Result<(), String> {
         return Err(format!("another ending is expected: {answer:?}"));
     }
     if EXPLAINS {
-        let (_, after) = ended(row, |side, lists| explain(side, case, lists))?;
-        if after != lists {
-            return Err("the explaining call leaves another memory".into());
-        }
+        explains(case, row, &lists)?;
+    }
+    if RUNS_BARE {
+        runs_bare(case, row, answer, &lists)?;
     }
     Ok(())
+}
+
+fn explains(case: &Case, row: &Row, lists: &Lists) -> Result<(), String> {
+    let (_, after) = ended(row, |side, lists| explain(side, case, lists))?;
+    match after == *lists {
+        true => Ok(()),
+        false => Err("the explaining call leaves another memory".into()),
+    }
+}
+
+/// A bare run ends as the fenced one does, unless that aborts.
+fn runs_bare(case: &Case, row: &Row, fenced: Answer, lists: &Lists) -> Result<(), String> {
+    let (answer, after) = ended(row, |side, lists| bare(side, case, lists))?;
+    if fenced.is_abort() {
+        return Ok(());
+    }
+    if answer != fenced {
+        return Err(format!("fenced and bare differ: {fenced:?}, {answer:?}"));
+    }
+    match after.values == lists.values {
+        true => Ok(()),
+        false => Err("the bare run leaves other values".into()),
+    }
 }
 
 /// What both sides answer and leave in lists full of rubbish.
