@@ -1,14 +1,14 @@
 -- What a command answers, from what its place, its value and its store did.
 use Prim.Native.Nat.{ℕ, _≤_, _<_}
-use mathlib.Core.Path.{_≡_, sym, _∙_}
+use mathlib.Core.Path.{_≡_, _∙_}
 use mathlib.Core.List.{List}
 use native.Mathlib.Omega.{arith}
 use lib.ListN.{length}
 use Rattle.words.specs.Columns.{column}
 use Rattle.semantics.specs.Words.{Words}
-use Rattle.semantics.specs.Syntax.{place-of, value-of}
+use Rattle.semantics.specs.Syntax.{value-of}
 use Rattle.semantics.specs.Bare.{State, Outcome, bind, value-at, assign-step, assign}
-use Rattle.bare_steps.specs.Answers.{full, stuck, state-of, Answers, answers-ok, answers-full, answers-stuck, Number-is, Done-is, Assigns}
+use Rattle.bare_steps.specs.Answers.{full, state-of, Answers, answers-ok, answers-full, answers-stuck, Number-is, Assigns}
 use Rattle.bare_evaluator.specs.Result.{Place-ready, Value-ready, Place-answered, Value-answered}
 use Rattle.bare_evaluator.proofs.Evaluation.{ready-after}
 use Rattle.bare_commands.specs.Command.{Command-ready, Command-answered}

@@ -1,6 +1,6 @@
 -- The commands in turn: what the loop has done is what the rules say.
 use Prim.Native.Nat.{ℕ, zero, suc, _+_, _*_, _≤_, _<_}
-use mathlib.Core.Path.{_≡_, refl, sym, ap, _∙_}
+use mathlib.Core.Path.{_≡_, refl, _∙_}
 use mathlib.Core.List.{List}
 use native.Mathlib.Omega.{arith}
 use native.Mathlib.Numerals.{add-one}
@@ -9,9 +9,7 @@ use lib.ListN.{length}
 use Rattle.words.specs.Columns.{column}
 use Rattle.semantics.specs.Words.{Words, word}
 use Rattle.semantics.specs.Table.{variables, commands, count}
-use Rattle.semantics.specs.Check.{command-place, command-value}
-use Rattle.semantics.specs.Syntax.{place-of, value-of}
-use Rattle.semantics.specs.Bare.{State, Outcome, assign, command, Ending, done, out-of-memory, stuck, ended, after-command, then-command, commands-below, ending, result-of}
+use Rattle.semantics.specs.Bare.{State, Outcome, command, Ending, done, out-of-memory, stuck, ended, after-command, then-command, commands-below, ending}
 use Rattle.lookups.proofs.Commands.{place-is, value-is, command-nodes}
 use Rattle.bare_steps.specs.Answers.{full, state-of, Answers, answers-ok, answers-full, answers-stuck, Done-is}
 use Rattle.bare_commands.specs.Command.{Command-ready, Command-answered}

@@ -8,17 +8,16 @@ use native.Mathlib.Nat.{one-mul}
 use lib.ListN.{length}
 use Rattle.words.specs.Columns.{column}
 use Rattle.semantics.specs.Words.{Words, word}
-use Rattle.semantics.specs.Table.{nodes, count, known-type, known-target, size-of, constant, kind-of, variable, read, sort-of, node-kind, node-a, node-b, node-type}
+use Rattle.semantics.specs.Table.{nodes, count, known-type, known-target, size-of, constant, kind-of, variable, sort-of, node-kind, node-a, node-b, node-type}
 use Rattle.semantics.specs.Table as Table
-use Rattle.semantics.specs.Syntax.{place-of, value-of, step-of}
-use Rattle.semantics.specs.Bare.{State, Outcome, ok, bind, deref-step, field-step, read-step, sum-step, malloc-step, copy-step, place-at, value-at}
-use Rattle.semantics.proofs.Steps.{Place-ok, Value-ok}
+use Rattle.semantics.specs.Syntax.{value-of, step-of}
+use Rattle.semantics.specs.Bare.{State, Outcome, bind, deref-step, field-step, read-step, sum-step, malloc-step, copy-step, place-at, value-at}
 use Rattle.lookups.specs.Lists.{part, Lists, Field-node, Known-word}
-use Rattle.lookups.specs.Nodes.{Place-tree, Value-tree, Reads-variable}
+use Rattle.lookups.specs.Nodes.{Reads-variable}
 use Rattle.lookups.proofs.Lookups.{noted-type}
 use Rattle.lookups.proofs.Nodes.{place-node, value-node, offset-of, moves-by, constant-node, size-node, variable-node, deref-node, field-node, read-node, address-node, cast-node, malloc-node, Binary, sums, copies, Operands, binary-node}
 use Rattle.lookups.proofs.Ready.{kind-is, a-is, b-is, size-known}
-use Rattle.bare_steps.specs.Answers.{full, state-of, Answers, answers-ok, answers-full, answers-stuck, Number-is, Finishes}
+use Rattle.bare_steps.specs.Answers.{full, Answers, answers-ok, answers-full, answers-stuck, Number-is, Finishes}
 use Rattle.bare_steps.proofs.Steps.{passed-on, goes-on, word-read}
 use Rattle.bare_evaluator.specs.Result.{Ready, Place-ready, Value-ready, Node-answered, Place-answered, Value-answered}
 

@@ -1,14 +1,12 @@
 -- Nodes that are worked out without a call, by what is noted of them.
-use Prim.Native.Nat.{ℕ, _+_, _/_, _%_, _<_}
-use mathlib.Core.Bool.{Bool, true}
+use Prim.Native.Nat.{ℕ, _+_, _%_, _<_}
 use mathlib.Core.Path.{_≡_, sym, ap, _∙_}
 use mathlib.Core.List.{List}
 use native.Mathlib.Omega.{arith}
-use lib.Dec.{eqb}
 use lib.ListN.{length}
 use Rattle.words.specs.Columns.{column}
 use Rattle.semantics.specs.Words.{Words, word}
-use Rattle.semantics.specs.Table.{edition, nodes, count, is-pointer, variable, constant, read, kind-of, sort-of, node-kind, node-a, node-b, node-type}
+use Rattle.semantics.specs.Table.{edition, nodes, count, is-pointer, variable, constant, kind-of, sort-of, node-kind, node-type}
 use Rattle.semantics.specs.Table as Table
 use Rattle.semantics.specs.Syntax.{moves-bounds}
 use Rattle.semantics.specs.Rules.{unbounded, variable-location, place-at}

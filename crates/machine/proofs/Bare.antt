@@ -11,17 +11,16 @@ use Rattle.semantics.specs.Registers.{register-count}
 use Rattle.semantics.specs.Check.{passes, refused, check}
 use Rattle.semantics.specs.Check as Check
 use Rattle.semantics.specs.Run.{registers-below}
-use Rattle.semantics.specs.Bare as Bare
-use Rattle.semantics.specs.Bare.{result-of, commands-below, call-fault, run, call}
+use Rattle.semantics.specs.Bare.{call-fault, run, call}
 use Rattle.semantics.proofs.Safety.{begin-inv}
 use Rattle.semantics.proofs.Agreement.{registers-bared, begin-bared}
 use Rattle.layout.proofs.Laws.{or-else-pass, or-else-refuse}
-use Rattle.registers.specs.Blocks.{memory, bare-memory, Registers-set, Registers-placed, All-placeable}
+use Rattle.registers.specs.Blocks.{memory, Registers-set, Registers-placed, All-placeable}
 use Rattle.bare_commands.specs.Execution as commands
 use Rattle.bare_commands.specs.Execution.{ended-of}
 use Rattle.bare_commands.specs.declared.Ended.{Ended}
-use Rattle.machine.specs.Run.{Program, Can-begin}
-use Rattle.machine.specs.Bare.{bare-answer-of, bare-result, Has-begun-bare, Startable-bare, Executed-bare, Called-bare}
+use Rattle.machine.specs.Run.{Can-begin}
+use Rattle.machine.specs.Bare.{bare-answer-of, Has-begun-bare, Executed-bare, Called-bare}
 use Rattle.machine.specs.declared.BareAnswer.{BareAnswer}
 use Rattle.machine.specs.declared.BareAnswer.the-variants.{Refused}
 use Rattle.machine.proofs.Calls.{rest-fault, registers-fit, unused-fits, has-begun}

@@ -176,22 +176,22 @@ pub fn set_registers(
     at
 }
 
-// The register at place p becomes a block at word `at` of a memory without bounds, and its variable points to it. Answers the first word after it.
-fn place_register(list: &[u32], p: usize, at: u32, values: &mut [u32]) -> u32
-    requires { ⌜ Placeable (now list) p at (now values) ⌝ }
-    ensures { λ r. ⌜ Register-placed (now (list .entry)) p (now (values .entry)) at (now (values .exit)) r ⌝ }
+// The register at place p becomes a block at word `start` of a memory without bounds, and its variable points to it. Answers the first word after it.
+fn place_register(list: &[u32], p: usize, start: u32, values: &mut [u32]) -> u32
+    requires { ⌜ Placeable (now list) p start (now values) ⌝ }
+    ensures { λ r. ⌜ Register-placed (now (list .entry)) p (now (values .entry)) start (now (values .exit)) r ⌝ }
 {
     let word = 1 + index(list[p]);
     let n = list[p + 1];
     if n == 0 {
         values[word] = 0;
-        return at;
+        return start;
     }
     let from = p + 2;
     let to = from + index(n);
-    store_all(values, index(at), &list[from..to]);
-    values[word] = at;
-    at + n
+    store_all(values, index(start), &list[from..to]);
+    values[word] = start;
+    start + n
 }
 
 // The registers become blocks of a memory without bounds, from word `first` on, in order. Answers the first word after the last.

@@ -1,5 +1,4 @@
 -- `bare_evaluator::read_variable` meets its contract. Assumes nothing.
-use mathlib.Core.Path.{sym}
 use native.Mathlib.Omega.{arith}
 use Rattle.lookups.proofs.Ready.{item-at, item-of}
 use Rattle.lookups.proofs.Shortcuts.{variable-below}

@@ -1,5 +1,4 @@
 -- `bare_steps::has_words` meets its contract. Assumes nothing.
-use mathlib.Core.Path.{sym}
 use native.Mathlib.Omega.{arith}
 use borrow.Author.Tests.{lt-ltb}
 use Rattle.bare_steps.proofs.has_words.Statement.{statement}

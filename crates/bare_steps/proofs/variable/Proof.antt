@@ -1,10 +1,9 @@
 -- `bare_steps::variable` meets its contract. Assumes nothing.
 use Prim.Native.Nat.{_+_}
 use mathlib.Core.Path.{refl, sym, ap, _∙_}
-use native.Mathlib.Omega.{arith}
 use borrow.Author.Needs.{needs}
 use lib.ListN.{getD}
-use Rattle.words.proofs.Columns.{nothing, element, within-element}
+use Rattle.words.proofs.Columns.{element, within-element}
 use Rattle.bare_steps.proofs.variable.Statement.{statement}
 use Rattle.bare_steps.proofs.variable.Tie as tie
 

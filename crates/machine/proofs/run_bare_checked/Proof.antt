@@ -1,5 +1,5 @@
 -- `machine::run_bare_checked` meets its contract. Assumes nothing.
-use mathlib.Core.Path.{refl, sym, _∙_}
+use mathlib.Core.Path.{refl}
 use denote.Ref.{now}
 use borrow.Author.Needs.{needs}
 use Rattle.layout.proofs.Laws.{told-as}
