@@ -1,9 +1,10 @@
-/* Mavistable for C and C++: checks and runs routines given as tables of 32-bit words, with the bounds of every pointer tracked.
-   mavistable_check and mavistable_run are in libcapi.a, mavistable_explain is in libcapi_explain.a; either links without the other.
+/* Mavistable for C and C++: checks and runs routines given as tables of 32-bit words, with the bounds of every pointer tracked, or without bounds.
+   mavistable_check and mavistable_run are in libcapi.a, mavistable_explain is in libcapi_explain.a, and mavistable_run_bare is in libcapi_bare.a; each
+   links without the others.
    All calls work on any words, allocate nothing, keep no state and may run on several threads.
-   Stack: 6 KiB are enough for mavistable_check, 44 KiB for mavistable_run and 46 KiB for mavistable_explain, whatever the table. On x86-64 they took
-   5,640, 44,080 and 46,432 bytes at the deepest tables. A run has at most one call open for each node on a path downwards, and no path has more
-   than 512 nodes: there are no more, and a node's children have smaller numbers than it has. */
+   Stack: 6 KiB are enough for mavistable_check, 44 KiB for mavistable_run, 46 KiB for mavistable_explain and 30 KiB for mavistable_run_bare, whatever the
+   table. On x86-64 they took 5,640, 44,080, 46,432 and 25,856 bytes at the deepest tables. A run has at most one call open for each node on a path
+   downwards, and no path has more than 512 nodes: there are no more, and a node's children have smaller numbers than it has. */
 #ifndef MAVISTABLE_H
 #define MAVISTABLE_H
 
@@ -25,7 +26,8 @@ enum mavistable_ending {
     MAVISTABLE_REFUSED = 0, /* nothing was run, and no word of the lists was changed */
     MAVISTABLE_DONE = 1,    /* all commands were done */
     MAVISTABLE_ABORT = 2,   /* a bounds check was not passed */
-    MAVISTABLE_NOROOM = 3   /* an allocation did not fit in the lists */
+    MAVISTABLE_NOROOM = 3,  /* an allocation did not fit in the lists */
+    MAVISTABLE_STUCK = 4    /* of a bare run alone: word 0 or a word outside the list was to be read or assigned */
 };
 
 /* How a call ended. What an ending does not tell is 0. */
@@ -33,8 +35,8 @@ struct mavistable_answer {
     uint32_t ending;  /* one of enum mavistable_ending */
     uint32_t number;  /* refused: the number of the refusal, 1 to 11 or 13 to 16 */
     size_t place;     /* refused: its place */
-    uint32_t command; /* abort, no room: the number of the command, from 0 */
-    uint32_t unused;  /* done, abort, no room: the first word of the lists that was never handed out */
+    uint32_t command; /* abort, no room, stuck: the number of the command, from 0 */
+    uint32_t unused;  /* done, abort, no room, stuck: the first word of the lists that was never handed out */
 };
 
 /* How an explained call ended, and why it aborted if it did. What an ending does not tell is 0; reason 0: the run did not abort. */
@@ -84,6 +86,17 @@ struct mavistable_explanation mavistable_explain(const uint32_t *table, size_t t
                                                  const uint32_t *registers, size_t registers_length, uint32_t *values,
                                                  size_t values_length, uint32_t *bases, size_t bases_length, uint32_t *ends,
                                                  size_t ends_length);
+
+/* Checks and runs a table as mavistable_run does, but without bounds, as old controllers do. The memory is one list, the values. Nothing is checked:
+   every word of the list but word 0 can be read and assigned, also those that were never handed out. Where the run reads or assigns word 0 or a
+   word outside the list, it is stuck: it stops there, and what it wrote before stays. A copy that is stuck writes nothing. All sums wrap at
+   32 bits, and an allocation clears its words. The ending is never MAVISTABLE_ABORT.
+   Where mavistable_run, with lists of the same length, ends as MAVISTABLE_DONE or MAVISTABLE_NOROOM, this call has the same answer and leaves the same
+   values. Where that one aborts, nothing is said of this one. It is refused as mavistable_run with three lists of this length would be.
+   The caller owes: each pointer points to as many words as its length says (readable; those of values writable too), none is NULL, and
+   values does not overlap the table, the inputs or the registers. */
+struct mavistable_answer mavistable_run_bare(const uint32_t *table, size_t table_length, const uint32_t *inputs, size_t input_count,
+                                             const uint32_t *registers, size_t registers_length, uint32_t *values, size_t values_length);
 
 #ifdef __cplusplus
 }

@@ -5,9 +5,12 @@ import unittest
 
 from programs import ROOT
 
-CALLS = "check", "run", "explain"
-ENOUGH = r"Stack: (\d+) KiB are enough for mavistable_check, (\d+) KiB for mavistable_run and (\d+) KiB for mavistable_explain"
-TOOK = r"On x86-64 they took ([\d,]+), ([\d,]+) and ([\d,]+) bytes"
+CALLS = "check", "run", "explain", "run_bare"
+ENOUGH = (
+    r"Stack: (\d+) KiB are enough for mavistable_check, (\d+) KiB for mavistable_run, (\d+) KiB for mavistable_explain and (\d+) KiB for "
+    r"mavistable_run_bare"
+)
+TOOK = r"On x86-64 they took ([\d,]+), ([\d,]+), ([\d,]+) and ([\d,]+) bytes"
 
 
 def numbers(pattern, text):
