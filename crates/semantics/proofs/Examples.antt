@@ -25,8 +25,8 @@ use Rattle.semantics.specs.CopyExamples.{shifted, shifts, copy-runs, ove
 use Rattle.semantics.specs.MarkExamples.{mark, marked-verdicts, marks, marked-requests, marked-refusals, marked-runs}
 use Rattle.semantics.specs.EditionExamples.{int-runs, sum-runs, block-runs, added, additions, reads-and-casts, reads-and-casts-outcomes, assignments, assignments-outcomes, editions-told}
 use Rattle.semantics.specs.BareExamples.{Bare-example, bared, bare-refusals, lists-alone, bare-answered, bare-requests, same-runs, runs-past-aborts, steps-past-aborts, copies-past-aborts, editions-past-aborts, compared, beside-aborts}
-use Rattle.semantics.specs.BareRunExamples.{outside-runs, stuck-runs, bare-copies, wrapping-runs, obtaining-runs, plain-runs}
-use Rattle.semantics.specs.BareStepExamples.{little, work, bare-values, perform, bare-assignments, reached, reaches, obtain, obtains, move, moves, bare-registered, partly, parts}
+use Rattle.semantics.specs.BareRunExamples.{outside-runs, stuck-runs, bare-copies, wrapping-runs, allocating-runs, plain-runs}
+use Rattle.semantics.specs.BareStepExamples.{little, work, bare-values, perform, bare-assignments, reached, reaches, allocate, allocations, move, moves, bare-registered, partly, parts}
 use Rattle.semantics.specs.TreeExamples.{every-kind, roots, trees-of, small, worked, values, copies, copies-outcomes, stepped, steps, registered, wild, wild-runs}
 use Rattle.semantics.proofs.Depth.{deeper, node-fault-before, check-before}
 use Rattle.semantics.proofs.DepthExamples.{measured, depths, judged-before, verdicts-before}
@@ -336,9 +336,9 @@ pub wrapping-runs-end-so : map bared wrapping-runs ≡ wrapping-runs
 unfolding unfenced computed wrapping-runs
 wrapping-runs-end-so = refl
 
-pub obtaining-runs-end-so : map bared obtaining-runs ≡ obtaining-runs
-unfolding unfenced computed obtaining-runs
-obtaining-runs-end-so = refl
+pub allocating-runs-end-so : map bared allocating-runs ≡ allocating-runs
+unfolding unfenced computed allocating-runs
+allocating-runs-end-so = refl
 
 pub plain-runs-end-so : map bared plain-runs ≡ plain-runs
 unfolding unfenced computed plain-runs
@@ -356,9 +356,9 @@ pub words-are-reached-so : map reached reaches ≡ reaches
 unfolding unfenced reached reaches
 words-are-reached-so = refl
 
-pub words-are-obtained-so : map obtain obtains ≡ obtains
-unfolding unfenced computed obtain obtains
-words-are-obtained-so = refl
+pub words-are-allocated-so : map allocate allocations ≡ allocations
+unfolding unfenced computed allocate allocations
+words-are-allocated-so = refl
 
 pub words-are-moved-so : map move moves ≡ moves
 unfolding unfenced computed move moves

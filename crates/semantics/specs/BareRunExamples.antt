@@ -191,8 +191,8 @@ wrapping-runs =
 abbrev over-dirt : List Command → Answer → Words → Bare-example
 over-dirt cs = run ((at-word 5 := Num 81) ∷ (at-word 6 := Num 82) ∷ (at-word 7 := Num 83) ∷ (at-word 8 := Num 84) ∷ cs)
 
-unfoldable pub obtaining-runs : List Bare-example
-obtaining-runs =
+unfoldable pub allocating-runs : List Bare-example
+allocating-runs =
     -- "its new words" and none beside them: one word, two and then one, all that there are
     over-dirt ((p := malloc-as int* 1) ∷ []) (ending done 6) (30 ∷ 5 ∷ 0 ∷ 0 ∷ 0 ∷ 82 ∷ 83 ∷ 84 ∷ [])
     ∷ over-dirt ((p := malloc-as int* 2) ∷ (v := Malloc (Num 1)) ∷ []) (ending done 8) (30 ∷ 5 ∷ 7 ∷ 0 ∷ 0 ∷ 0 ∷ 0 ∷ 84 ∷ [])

@@ -19,8 +19,8 @@ abbrev pub little : State
 little = with-unused six-words 4
 
 -- Two words obtained, then these in them.
-abbrev obtained : ℕ → ℕ → State
-obtained v w = with-unused (7 ∷ 5 ∷ 9 ∷ 0 ∷ v ∷ w ∷ []) 6
+abbrev allocated : ℕ → ℕ → State
+allocated v w = with-unused (7 ∷ 5 ∷ 9 ∷ 0 ∷ v ∷ w ∷ []) 6
 
 -- ---- The value of each kind of tree
 
@@ -90,17 +90,17 @@ bare-values =
     ∷ gives (Cast 2 false word-1) 5
     -- "An obtain sets its new words to 0": one, two, none, and one too many
     ∷ comes-to one-more (ok 4 (with-unused (7 ∷ 5 ∷ 9 ∷ 0 ∷ 0 ∷ 8 ∷ []) 5))
-    ∷ comes-to block (ok 4 (obtained 0 0))
+    ∷ comes-to block (ok 4 (allocated 0 0))
     ∷ gives (Malloc 1 (Number 0 0)) 0
     ∷ finds-no-room too-long
-    ∷ comes-to (Read 3 true (Deref 2 block)) (ok 0 (obtained 0 0))
+    ∷ comes-to (Read 3 true (Deref 2 block)) (ok 0 (allocated 0 0))
     -- a copy: apart, and overlapping either way; a first, then b
     ∷ comes-to (Copy 2 2 (Number 0 4) (Number 1 1)) (ok 2 (with-unused (7 ∷ 5 ∷ 9 ∷ 0 ∷ 5 ∷ 9 ∷ []) 4))
     ∷ comes-to (Copy 2 2 (Number 0 2) (Number 1 1)) (ok 2 (with-unused (7 ∷ 5 ∷ 5 ∷ 9 ∷ 8 ∷ 8 ∷ []) 4))
     ∷ comes-to (Copy 2 2 (Number 0 1) (Number 1 2)) (ok 2 (with-unused (7 ∷ 9 ∷ 0 ∷ 0 ∷ 8 ∷ 8 ∷ []) 4))
-    ∷ comes-to (Copy 3 2 block (Number 2 1)) (ok 2 (obtained 5 9))
+    ∷ comes-to (Copy 3 2 block (Number 2 1)) (ok 2 (allocated 5 9))
     ∷ has-no-word (Copy 2 2 (Number 0 5) (Number 1 1))
-    ∷ comes-to (Copy 3 2 (Number 2 5) block) (no-word (obtained 0 0))
+    ∷ comes-to (Copy 3 2 (Number 2 5) block) (no-word (allocated 0 0))
     -- no value and no place, where no sense was made of a node: each kind of tree ends there, with what was obtained before
     ∷ has-no-word NoValue
     ∷ has-no-word (Read 1 true NoPlace)
@@ -108,20 +108,20 @@ bare-values =
     ∷ has-no-word (Address 1 (Deref 0 NoValue))
     ∷ has-no-word (Address 1 (Field 0 2 1 NoValue))
     ∷ has-no-word (Sum 2 false 1 NoValue block)
-    ∷ comes-to (Sum 2 false 1 block NoValue) (no-word (obtained 0 0))
+    ∷ comes-to (Sum 2 false 1 block NoValue) (no-word (allocated 0 0))
     ∷ has-no-word (Cast 1 true NoValue)
     ∷ has-no-word (Malloc 1 NoValue)
     ∷ has-no-word (Copy 2 2 NoValue block)
-    ∷ comes-to (Copy 2 2 block NoValue) (no-word (obtained 0 0))
+    ∷ comes-to (Copy 2 2 block NoValue) (no-word (allocated 0 0))
     -- and at no room
     ∷ finds-no-room (Read 3 true (Deref 2 too-long))
     ∷ finds-no-room (Address 3 (Field 2 2 1 too-long))
     ∷ finds-no-room (Sum 3 false 1 too-long NoValue)
-    ∷ comes-to (Sum 4 false 1 block one-more) (no-room (obtained 0 0))
+    ∷ comes-to (Sum 4 false 1 block one-more) (no-room (allocated 0 0))
     ∷ finds-no-room (Cast 2 true too-long)
     ∷ finds-no-room (Malloc 2 too-long)
     ∷ finds-no-room (Copy 3 2 too-long NoValue)
-    ∷ comes-to (Copy 4 2 block one-more) (no-room (obtained 0 0))
+    ∷ comes-to (Copy 4 2 block one-more) (no-room (allocated 0 0))
     ∷ []
 
 -- ---- Assignments: the place, then the value, then the word
@@ -149,14 +149,14 @@ bare-assignments =
     ∷ ends-in (Variable 0 5) (Number 1 77) (no-word little)
     ∷ ends-in word-0 (Number 1 77) (no-word little)
     -- the value is worked out before that: its block stays, its copy has written, and its no room is told
-    ∷ ends-in word-0 block (no-word (obtained 0 0))
-    ∷ ends-in (Variable 0 5) block (no-word (obtained 0 0))
+    ∷ ends-in word-0 block (no-word (allocated 0 0))
+    ∷ ends-in (Variable 0 5) block (no-word (allocated 0 0))
     ∷ ends-in word-0 (Copy 2 2 (Number 0 4) (Number 1 1)) (no-word (with-unused (7 ∷ 5 ∷ 9 ∷ 0 ∷ 5 ∷ 9 ∷ []) 4))
     ∷ ends-in word-0 too-long (no-room little)
     -- and the place before it
-    ∷ ends-in (Deref 2 block) (Number 0 77) (ok tt (obtained 77 0))
-    ∷ ends-in (Deref 2 block) one-more (no-room (obtained 0 0))
-    ∷ ends-in (Deref 2 block) NoValue (no-word (obtained 0 0))
+    ∷ ends-in (Deref 2 block) (Number 0 77) (ok tt (allocated 77 0))
+    ∷ ends-in (Deref 2 block) one-more (no-room (allocated 0 0))
+    ∷ ends-in (Deref 2 block) NoValue (no-word (allocated 0 0))
     ∷ ends-in (Deref 2 too-long) NoValue (no-room little)
     ∷ ends-in NoPlace too-long (no-word little)
     ∷ ends-in NoPlace block (no-word little)
@@ -198,19 +198,19 @@ reaches =
 
 -- ---- Obtaining n words in that list from other U: at the last word, at its length, and past it
 
-pub record Obtain : Type 0 where
+pub record Allocation : Type 0 where
   pub unused : ℕ
   pub n : ℕ
   pub outcome : Outcome ℕ
 
-unfoldable pub obtain : Obtain → Obtain
-obtain c = record { unused = c .unused; n = c .n; outcome = malloc-step (c .n) (with-unused six-words (c .unused)) }
+unfoldable pub allocate : Allocation → Allocation
+allocate c = record { unused = c .unused; n = c .n; outcome = malloc-step (c .n) (with-unused six-words (c .unused)) }
 
-abbrev from-unused : ℕ → ℕ → Outcome ℕ → Obtain
+abbrev from-unused : ℕ → ℕ → Outcome ℕ → Allocation
 from-unused u n o = record { unused = u; n = n; outcome = o }
 
-unfoldable pub obtains : List Obtain
-obtains =
+unfoldable pub allocations : List Allocation
+allocations =
     from-unused 2 3 (ok 2 (with-unused (7 ∷ 5 ∷ 0 ∷ 0 ∷ 0 ∷ 8 ∷ []) 5))
     ∷ from-unused 2 4 (ok 2 (with-unused (7 ∷ 5 ∷ 0 ∷ 0 ∷ 0 ∷ 0 ∷ []) 6))
     ∷ from-unused 2 5 (no-room (with-unused six-words 2))
