@@ -9,7 +9,7 @@ use native.Mathlib.Omega.{arith}
 use borrow.Author.Tests.{lt-ltb}
 use lib.Dec.{ltb}
 use Rattle.semantics.specs.Words.{Words}
-use Rattle.semantics.specs.Table.{records, fields, pointers, variables, nodes, commands, count, item_place, Sort, Operand, place_child, value_child, operand_a, operand_b, node_kind, node_a, node_b, child, children}
+use Rattle.semantics.specs.Table.{records, fields, pointers, variables, nodes, commands, count, item_place, Sort, Operand, unused, variable_number, field_number, any_word, type_word, target_word, place_child, value_child, operand_a, operand_b, node_kind, node_a, node_b, child, children}
 use Rattle.semantics.specs.Check.{Verdict, passes, refused, ◌or_else◌, require, each, edition_fault, section_fault, words_over, record_fault, field_sum_fault, field_fault, pointer_fault, variable_fault, is_child, operand_fault, node_fault, command_fault, use_fault, check}
 use Rattle.semantics.proofs.Tests.{and_true, and_both, or_true}
 use Rattle.semantics.proofs.Passed.{require_passes, each_passes, Passed, section_ok}
@@ -32,10 +32,17 @@ children_before t n pass x among =
   where
     named_before : (s : Sort) (y p : ℕ) → require (is_child t s n y) 7 p ≡ passes → Memᴰ x (y ∷ []) → x < n
     named_before s y p e (Memᴰ.head same) = rw same (is_child_true t s n y (require_passes (is_child t s n y) 7 p e)).0
+    named_before s y p e (Memᴰ.tail none) = elim none [ ]
 
     operand_before : (o : Operand) (y p : ℕ) → operand_fault t n o y p ≡ passes → Memᴰ x (child o y) → x < n
     operand_before place_child y p e m = named_before Sort.place y p e m
     operand_before value_child y p e m = named_before Sort.value y p e m
+    operand_before unused y p e none = elim none [ ]
+    operand_before variable_number y p e none = elim none [ ]
+    operand_before field_number y p e none = elim none [ ]
+    operand_before any_word y p e none = elim none [ ]
+    operand_before type_word y p e none = elim none [ ]
+    operand_before target_word y p e none = elim none [ ]
 
     go : (xs : Words) {ys : Words} → (Memᴰ x xs → x < n) → (Memᴰ x ys → x < n) → Memᴰ x (xs ++ ys) → x < n
     go [] left right m = right m
@@ -118,6 +125,7 @@ found p (x ∷ xs) e =
     (or_true (p x) (any_of p xs) e)
 
 find : (p : ℕ → Bool) {x : ℕ} (xs : Words) → Memᴰ x xs → p x ≡ true → any_of p xs ≡ true
+find p [] none h = elim none [ ]
 find p (y ∷ ys) (Memᴰ.head same) h = let e : p y ≡ true = rw (sym same) h in rw e
 find p (y ∷ ys) (Memᴰ.tail m) h = go (p y) (find p ys m h)
   where
