@@ -1,4 +1,6 @@
 // What a call brings beside its table: the check of its lists and inputs.
+#![tactic(auto)]
+
 ghost use Rattle.std.specs.Prelude.{◌≡◌, ◌&&◌, ◌||◌, leb, ltb, eqb, length};
 ghost use Rattle.semantics.specs.Table.{count};
 ghost use Rattle.semantics.specs.Check.{each, input_fault, arguments_fault};

@@ -1,4 +1,6 @@
 // The commands of a table, one after the other, without bounds: the place, the value, the store.
+#![tactic(auto)]
+
 ghost use Rattle.std.specs.Prelude.{◌≡◌, map};
 ghost use Rattle.bare_commands.specs.Command.{CommandReady, CommandAnswered};
 ghost use Rattle.bare_commands.specs.Execution.{Executable, Executed};

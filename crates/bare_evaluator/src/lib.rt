@@ -1,5 +1,7 @@
 // Evaluation of places and values without bounds. As in `evaluator`, the nodes are read as they stand in the table, with one match on the kind in
 // `place` and one in `value`, and no call is made for a constant or a variable that is read. `u` is U.
+#![tactic(auto)]
+
 ghost use Rattle.std.specs.Prelude.{◌≡◌, map, ℕ};
 ghost use Rattle.lookups.specs.Nodes.{ReadsVariable};
 ghost use Rattle.bare_evaluator.specs.Result.{PlaceReady, ValueReady, PlaceAnswered, ValueAnswered};

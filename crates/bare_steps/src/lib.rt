@@ -1,6 +1,8 @@
 // The steps of the bare run that touch memory: what is answered for one node from what its child answered.
 // A result is one number, below 2^32 a value or a place, else how evaluation ended. Nothing is known of the memory but its length, so a place that is
 // read or assigned is tested here.
+#![tactic(auto)]
+
 ghost use Rattle.std.specs.Prelude.{◌&&◌, ◌≡◌, map, ℕ, ◌+◌, ◌≤◌, ◌<◌, leb, ltb, length};
 ghost use Rattle.words.specs.Columns.{column};
 ghost use Rattle.semantics.specs.Words.{word};

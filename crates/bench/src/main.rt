@@ -1,4 +1,6 @@
 // The bench program: reads a memory length, inputs and a table as decimal numbers, runs the table and prints how it ended.
+#![tactic(auto)]
+
 ghost use Rattle.bench.specs.Input.{Reads, Read, AnswersInput};
 
 use console::Output;

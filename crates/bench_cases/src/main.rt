@@ -1,5 +1,7 @@
 // Tests of the bench program: many of its texts on standard input, parted by the byte %. Each goes the way that `bench` sends its one
 // text, and what `bench` prints for each is printed in turn.
+#![tactic(auto)]
+
 use console::Output;
 use stream::Part;
 use text::Scanner;

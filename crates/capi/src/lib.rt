@@ -1,4 +1,6 @@
 // The two calls for C: numbers and slices alone.
+#![tactic(auto)]
+
 ghost use Rattle.std.specs.Prelude.{◌≡◌};
 ghost use Rattle.semantics.specs.Check.{check};
 ghost use Rattle.semantics.specs.Run.{call};

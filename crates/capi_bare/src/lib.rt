@@ -1,4 +1,6 @@
 // The bare call for C: numbers and slices alone. A library of its own, for boxes that have no lists of bounds.
+#![tactic(auto)]
+
 ghost use Rattle.semantics.specs.Words.{Words};
 ghost use Rattle.semantics.specs.Bare.{call};
 ghost use Rattle.semantics.specs.Agreement.{SameResult};

@@ -1,6 +1,8 @@
 // Makes the four calls for C on recorded cases, and prints every number of their structs and every word of the lists, after the run, after the call
 // that explains and after the bare one, which takes the first list alone. A case is `CALL LIGHT LV LB LE LK NI i.. NR r.. NT t..`, as `replay` has it; CALL, LIGHT and LK are not looked at, and
 // the lists have at most 64 words, all 7 before each call. What is no case is answered by `case`.
+#![tactic(auto)]
+
 ghost use Rattle.std.specs.Prelude.{◌≤◌, ◌<◌, length};
 
 use capi::{MavistableAnswer, MavistableVerdict};

@@ -1,4 +1,6 @@
 // The call for C that explains an abort. It is a library of its own, so that a program which only checks and runs has neither its code nor its cost.
+#![tactic(auto)]
+
 ghost use Rattle.std.specs.Prelude.{◌≡◌};
 ghost use Rattle.semantics.specs.Safety.{SpatiallySafe};
 ghost use Rattle.semantics.specs.Log.{LogBelievable};

@@ -2,6 +2,8 @@
 // `CALL LIGHT LV LB LE LK NI i.. NR r.. NT t..`: CALL is 0 for a run, 1 for the check alone, 2 for a run that is explained and 3 for a bare run;
 // LV, LB and LE are the lengths of the lists lent, of which a bare run takes the first; LK is not used, LIGHT is 0; i.. are the inputs, r.. the register list and t.. the table. Single spaces
 // part the numbers.
+#![tactic(auto)]
+
 ghost use Rattle.std.specs.Prelude.{◌≤◌, length};
 ghost use Rattle.cases.specs.Cases.{Parsed};
 ghost use Rattle.cases.specs.Lines.{ScansLine};

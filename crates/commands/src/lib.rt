@@ -1,4 +1,6 @@
 // The commands of a table, one after the other: the place, the value, the store.
+#![tactic(auto)]
+
 ghost use Rattle.std.specs.Prelude.{◌≡◌, map, ◌<◌, ◌^◌, length};
 ghost use Rattle.words.specs.Columns.{column};
 ghost use Rattle.commands.specs.Command.{CommandReady, Stored, CommandAnswered};

@@ -1,4 +1,6 @@
 // What the bench program does with a text of numbers: runs what they ask for, and prints how it ended.
+#![tactic(auto)]
+
 ghost use Rattle.std.specs.Prelude.{◌≤◌, ◌-◌, [], ◌∷◌, ◌≡◌, length, take, drop};
 ghost use Rattle.machine.specs.Run.{answer_of};
 ghost use Rattle.semantics.specs.Run.{call};

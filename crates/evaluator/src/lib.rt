@@ -1,6 +1,8 @@
 // Evaluation of places and values: the nodes are read as they stand in the table, which has passed the check, whose lists are `l`.
 // One match on the kind in `place` and one in `value`. Where the check has noted that no call is needed for a child, a constant or a variable
 // that is read, none is made. A call is made for a child alone, so no more are open than nodes are on a path downwards: at most 512.
+#![tactic(auto)]
+
 ghost use Rattle.std.specs.Prelude.{◌≡◌, map, ◌+◌, ◌*◌, ◌<◌, length};
 ghost use Rattle.words.specs.Columns.{column};
 ghost use Rattle.semantics.specs.Words.{Words};

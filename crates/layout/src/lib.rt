@@ -1,4 +1,6 @@
 // The layout of a table, and the check of everything before its nodes: edition, sections, records, fields, pointers, variables.
+#![tactic(auto)]
+
 ghost use Rattle.std.specs.Prelude.{◌≡◌, ℕ, ◌+◌, ◌≤◌, length, replicate};
 ghost use Rattle.semantics.specs.Words.{Words, word};
 ghost use Rattle.semantics.specs.Table.{edition, count_place, count, entry_words, limits, known_type, known_target, first_field};

@@ -1,4 +1,6 @@
 // The memory as one array: the lists of a caller, lent on for one call.
+#![tactic(auto)]
+
 ghost use Rattle.std.specs.Prelude.{[], ◌∷◌, map};
 ghost use Rattle.commands.specs.Command.{lists};
 ghost use Rattle.commands.specs.Execution.{Executable, Executed};

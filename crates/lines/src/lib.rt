@@ -1,4 +1,6 @@
 // The lines that the bench program prints for a call: how it ended, and the words of the memory. How a bare call ended.
+#![tactic(auto)]
+
 ghost use Rattle.std.specs.Prelude.{[], ◌∷◌, ◌≡◌};
 ghost use Rattle.machine.specs.Run.{answer_of};
 ghost use Rattle.machine.specs.Bare.{bare_answer_of};

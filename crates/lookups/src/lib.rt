@@ -1,4 +1,6 @@
 // What is looked up in the lists of a table that has passed the check, `l`: words of its nodes, notes, fields, sizes and steps.
+#![tactic(auto)]
+
 ghost use Rattle.std.specs.Prelude.{◌≡◌, map, ◌+◌, ◌*◌, ◌≤◌, ◌<◌, ◌^◌, ◌/◌, ◌%◌, eqb, length};
 ghost use Rattle.semantics.specs.Words.{Words, word};
 ghost use Rattle.semantics.specs.Table.{known_type, known_target, target, pointed_record, first_field, field_offset, field_count, size_of, node_a, node_b, node_type};

@@ -1,4 +1,6 @@
 // Runs a table: the commands in order over the three lists of the memory, and tells why a run aborted; or over its values alone, without bounds.
+#![tactic(auto)]
+
 ghost use Rattle.std.specs.Prelude.{◌≡◌};
 ghost use Rattle.semantics.specs.Safety.{SpatiallySafe};
 ghost use Rattle.semantics.specs.Log.{LogBelievable};

@@ -1,4 +1,6 @@
 // Words of a list that go to another place of it, where the two may overlap.
+#![tactic(auto)]
+
 ghost use Rattle.std.specs.Prelude.{◌≡◌, ◌+◌, ◌≤◌, ◌<◌, length};
 ghost use Rattle.semantics.specs.Words.{moved};
 

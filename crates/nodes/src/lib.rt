@@ -1,6 +1,8 @@
 // The check of one node: its verdict, its note, and its uses of other nodes.
 // Parameters: `records` and `pointers` are counts; `targets` and `fields` are the places of the first pointer and the first field;
 // `place` is that of node `n`, whose two other words are `a` and `b`; `notes` has the notes of the nodes before it.
+#![tactic(auto)]
+
 ghost use Rattle.std.specs.Prelude.{◌≡◌, true, [], ◌∷◌, ℕ, ◌+◌, ◌<◌, ◌≤◌, ◌^◌, ◌%◌, eqb, length};
 ghost use Rattle.semantics.specs.Words.{Words, word};
 ghost use Rattle.semantics.specs.Table.{count_place, count, target, Sort, deref, field, variable, constant, sum, read, address, cast, size, malloc, copy};

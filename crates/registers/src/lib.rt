@@ -1,4 +1,6 @@
 // The registers that a call hands in: the check of their list, and the memory that they are at the start of a run.
+#![tactic(auto)]
+
 ghost use Rattle.std.specs.Prelude.{◌+◌, ◌≤◌, ◌<◌, ◌^◌, ◌≡◌, length};
 ghost use Rattle.semantics.specs.Words.{word};
 ghost use Rattle.semantics.specs.Table.{count};

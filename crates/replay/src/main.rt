@@ -1,6 +1,8 @@
 // Answers recorded cases, one line in and one line out, so that thousands run in one process. The crate `cases` says what a case is. The lists
 // that one lends arrive with the word 7 in every place. An explained run is answered as a run is, and then by its explanation; a bare run by its
 // ending and the words up to the last that is not 0. A line that is no case is answered by `case`.
+#![tactic(auto)]
+
 ghost use Rattle.std.specs.Prelude.{◌≤◌, length};
 ghost use Rattle.cases.specs.Cases.{Within};
 

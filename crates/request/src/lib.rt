@@ -1,4 +1,6 @@
 // What the numbers of a text ask of the bench program.
+#![tactic(auto)]
+
 ghost use Rattle.request.specs.Request.{Requested};
 
 use text::Scanner;

@@ -1,4 +1,6 @@
 // The sizes of a table's records and the offsets of their fields, for a run to look up.
+#![tactic(auto)]
+
 ghost use Rattle.std.specs.Prelude.{◌≡◌, ◌+◌, ◌≤◌, ◌<◌, ◌^◌, length};
 ghost use Rattle.semantics.specs.Words.{Words, word};
 ghost use Rattle.semantics.specs.Table.{count, item, record_target, field_total, first_field, field_offset, size_of};

@@ -1,6 +1,8 @@
 // The steps of evaluation: what is answered for one node from what its child answered.
 // A result is one number, below 2^32 a value or a place, else how evaluation ended. `s` are slots beside it: base and end of what was
 // worked out, U, where a check was not passed that check, and which block has a word that is watched for.
+#![tactic(auto)]
+
 ghost use Rattle.std.specs.Prelude.{◌≡◌, ◌+◌, ◌*◌, ◌%◌, ◌^◌, ◌<◌, ◌≤◌, true, List, [], map, length};
 ghost use Rattle.words.specs.Columns.{column};
 ghost use Rattle.semantics.specs.Words.{Words, word};

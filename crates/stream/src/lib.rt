@@ -1,4 +1,6 @@
 // Standard input in parts that a byte ends, and standard output in large pieces.
+#![tactic(auto)]
+
 ghost use Rattle.std.specs.Prelude.{◌+◌, ◌≤◌, min, [], ◌∷◌, ◌≡◌, length, drop};
 ghost use Rattle.stream.specs.Items.{word, number, PutsItems};
 ghost use Rattle.stream.specs.Parts.{before, open_part, part_of, NextPart, free_place};

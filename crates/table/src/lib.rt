@@ -1,4 +1,6 @@
 // The whole check of a table, which leaves the notes of its nodes and what its records are looked up by. Then, for a run, what the edition adds to the notes.
+#![tactic(auto)]
+
 ghost use Rattle.std.specs.Prelude.{◌≡◌, true, ℕ, ◌+◌, ◌*◌, ◌<◌, ◌≤◌, ◌^◌};
 ghost use Rattle.semantics.specs.Words.{Words, word};
 ghost use Rattle.semantics.specs.Table.{edition, edition_2, nodes, count};

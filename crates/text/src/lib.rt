@@ -1,4 +1,6 @@
 // Texts of decimal numbers: a scanner that reads one in chunks, and a writer.
+#![tactic(auto)]
+
 ghost use Rattle.std.specs.Prelude.{◌≡◌, ℕ, ◌+◌, ◌%◌, List, [], length};
 ghost use Rattle.text.specs.Numbers.{separator};
 ghost use Rattle.text.specs.Scan.{fresh, held, take_digit, take_byte, Scanned, Scans, Finishes};

@@ -1,6 +1,8 @@
 // Tells in words why a run aborted, for the person at the duty desk. Standard input has cases, one to a line, as the crate `cases` reads them,
 // with 2 as CALL. Each is answered by how the call ended, as the bench program prints it; after a run a second line says which check was not
 // passed and why, or that the run did not abort. A line that is no such case is answered by `input`.
+#![tactic(auto)]
+
 ghost use Rattle.std.specs.Prelude.{◌≤◌, ◌≡◌, [], ◌∷◌, length};
 ghost use Rattle.semantics.specs.Words.{word, if◌then◌else◌};
 ghost use Rattle.semantics.proofs.Registers.{Whole};
