@@ -3,13 +3,13 @@ use Prim.Native.Nat.{ℕ, zero, suc, ◌<◌}
 use mathlib.Core.Path.{◌≡◌, refl, sym, ap, subst}
 use mathlib.Core.List.{List, [], ◌∷◌, map}
 use lib.ListN.{length, get_or, set, get_or-map}
-use denote.Ref.{Bor, MutBor}
+use denote.Ref.{MutBor}
 use borrow.Rule.Slice.Mut.{set_vals}
 use Rattle.words.specs.Columns.{column}
 
 -- An element that is not there counts as this reference to nothing.
 abbrev pub nothing : MutBor (List ℕ)
-nothing = record { ref_ptr = (0, 0); now = [] }
+nothing = record { ref_ptr = (0, 0); ghost_name = 0; now = [] }
 
 pub element : (l : List (MutBor (List ℕ))) (j : ℕ) → column (map (λ x. x.now) l) j ≡ (get_or l j nothing).now
 element l j = get_or-map (λ (x : MutBor (List ℕ)). x.now) l j nothing
@@ -42,10 +42,10 @@ replaced_other (a ∷ l) (suc j) zero xs h = refl
 replaced_other (a ∷ l) (suc j) (suc i) xs h = replaced_other l j i xs (λ e. h (ap suc e))
 
 -- The array holds the same references.
-pub replaced_names : (l : List (MutBor (List ℕ))) (j : ℕ) (xs : List ℕ) → map (λ y. y.name) (replaced l j xs) ≡ map (λ y. y.name) l
+pub replaced_names : (l : List (MutBor (List ℕ))) (j : ℕ) (xs : List ℕ) → map (λ y. y.ghost_name) (replaced l j xs) ≡ map (λ y. y.ghost_name) l
 replaced_names [] j xs = refl
 replaced_names (a ∷ l) zero xs = refl
-replaced_names (a ∷ l) (suc j) xs = ap (λ r. a.name ∷ r) (replaced_names l j xs)
+replaced_names (a ∷ l) (suc j) xs = ap (λ r. a.ghost_name ∷ r) (replaced_names l j xs)
 
 -- ---- a store of x to word w of list j
 
@@ -58,5 +58,5 @@ put_same l j w x = replaced_same (λ xs. set xs w x) refl l j (ap (λ xs. set xs
 pub put_other : (l : List (MutBor (List ℕ))) (j i w x : ℕ) → (i ≡ j → ⊥) → column (map (λ y. y.now) (put l j w x)) i ≡ column (map (λ y. y.now) l) i
 put_other l j i w x h = replaced_other l j i (set (get_or l j nothing).now w x) h
 
-pub put_names : (l : List (MutBor (List ℕ))) (j w x : ℕ) → map (λ y. y.name) (put l j w x) ≡ map (λ y. y.name) l
+pub put_names : (l : List (MutBor (List ℕ))) (j w x : ℕ) → map (λ y. y.ghost_name) (put l j w x) ≡ map (λ y. y.ghost_name) l
 put_names l j w x = replaced_names l j (set (get_or l j nothing).now w x)
