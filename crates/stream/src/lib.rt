@@ -5,7 +5,7 @@ ghost use Rattle.std.specs.Prelude.{◌+◌, ◌≤◌, min, [], ◌∷◌, ◌�
 ghost use Rattle.stream.specs.Items.{word, number, PutsItems};
 ghost use Rattle.stream.specs.Parts.{before, open_part, part_of, NextPart, free_place};
 
-use libc::{STDIN_FILENO, STDOUT_FILENO};
+use std::io::{Read, Write};
 
 // Bytes `from` to `to` of a buffer that holds `filled` bytes of the input. The next part starts at `next`.
 #[derive(Drop)]
@@ -80,8 +80,18 @@ fn cut(bytes: &[u8], from: usize, b: u8) -> Part
     }
 }
 
+// Reads once, and tells how many bytes it has put at the start of a buffer: none at the input's end, and none where the read fails.
+pub fn read_some(rt: HostRuntime, buffer: &mut [u8]) -> usize
+    ensures { result ≤ length buffer.new }
+{
+    match rt.stdin().read(buffer) {
+        Ok(n) => n,
+        Err(_) => 0,
+    }
+}
+
 // The part after `last`, up to the byte b or the end of what is read. A read that fails ends the input.
-pub fn next_part(buffer: &mut [u8], last: Part, b: u8) -> Part
+pub fn next_part(rt: HostRuntime, buffer: &mut [u8], last: Part, b: u8) -> Part
     ensures { NextPart buffer.old last b buffer.new result }
 {
     let from = last.next;
@@ -91,8 +101,7 @@ pub fn next_part(buffer: &mut [u8], last: Part, b: u8) -> Part
             return cut(&buffer[0..filled], from, b);
         }
     }
-    let got = libc::read(STDIN_FILENO, buffer);
-    let n = io::count(got, buffer);
+    let n = read_some(rt, buffer);
     if n == 0 {
         return Part {
             from: 0,
@@ -111,12 +120,15 @@ pub fn least(a: usize, b: usize) -> usize
     if a < b { a } else { b }
 }
 
-// Writes the first `at` bytes to standard output, and answers the next free place, 0.
-pub fn flush(out: &[u8], at: usize) -> usize
+// Writes the first `at` bytes to standard output, and answers the next free place, 0. A write that fails is given up.
+pub fn flush(rt: HostRuntime, out: &[u8], at: usize) -> usize
     ensures { result ≡ 0 }
 {
     if at <= out.len() {
-        io::write_all(STDOUT_FILENO, &out[0..at]);
+        match rt.stdout().write_all(&out[0..at]) {
+            Ok(()) => {}
+            Err(_) => {}
+        }
     }
     0
 }
@@ -125,7 +137,7 @@ pub fn flush(out: &[u8], at: usize) -> usize
 const ROOM: usize = 128;
 
 // The next free place, after a flush if less than `ROOM` is left.
-pub fn make_room(out: &[u8], at: usize) -> usize
+pub fn make_room(rt: HostRuntime, out: &[u8], at: usize) -> usize
     ensures { result ≡ free_place (length out.now) at }
 {
     if at <= out.len() {
@@ -133,7 +145,7 @@ pub fn make_room(out: &[u8], at: usize) -> usize
             return at;
         }
     }
-    flush(out, at)
+    flush(rt, out, at)
 }
 
 // Some bytes and then a number.
