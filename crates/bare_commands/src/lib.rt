@@ -11,7 +11,7 @@ use lookups::Lists;
 use words::{index, low};
 
 // How a bare run ended: done with U; out of memory or stuck with command number and U.
-#[derive(Drop)]
+#[derive(Clone, Copy)]
 pub enum Ended {
     Done(u32),
     NoRoom(u32, u32),

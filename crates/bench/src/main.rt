@@ -7,7 +7,7 @@ use console::Output;
 use libc::STDIN_FILENO;
 use text::Scanner;
 
-#[derive(Drop)]
+#[derive(Clone, Copy)]
 struct Progress {
     more: bool,
     scanner: Scanner,

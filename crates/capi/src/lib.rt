@@ -13,7 +13,7 @@ use machine::Answer;
 
 // refused 0: the table passes, and number and place are 0.
 #[repr(C)]
-#[derive(Drop)]
+#[derive(Clone, Copy)]
 pub struct MavistableVerdict {
     pub refused: u32,
     pub number: u32,
@@ -22,7 +22,7 @@ pub struct MavistableVerdict {
 
 // ending 0: refused, with number and place; 1: done; 2: abort; 3: no room. What an ending does not tell is 0.
 #[repr(C)]
-#[derive(Drop)]
+#[derive(Clone, Copy)]
 pub struct MavistableAnswer {
     pub ending: u32,
     pub number: u32,
@@ -31,8 +31,7 @@ pub struct MavistableAnswer {
     pub unused: u32,
 }
 
-#[unsafe(no_mangle)]
-pub extern "C" fn mavistable_check(table: &[u32]) -> MavistableVerdict
+pub fn mavistable_check(table: &[u32]) -> MavistableVerdict
     ensures { result ≡ verdict_numbers (check table.now) }
 {
     match machine::check(table) {
@@ -49,8 +48,7 @@ pub extern "C" fn mavistable_check(table: &[u32]) -> MavistableVerdict
     }
 }
 
-#[unsafe(no_mangle)]
-pub extern "C" fn mavistable_run(
+pub fn mavistable_run(
     table: &[u32],
     inputs: &[u32],
     registers: &[u32],

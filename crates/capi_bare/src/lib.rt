@@ -10,8 +10,7 @@ use capi::MavistableAnswer;
 use machine::BareAnswer;
 
 // The numbers of `MavistableAnswer`: 1 is done, 3 no room, and 4 stuck. What an ending does not tell is 0.
-#[unsafe(no_mangle)]
-pub extern "C" fn mavistable_run_bare(
+pub fn mavistable_run_bare(
     table: &[u32],
     inputs: &[u32],
     registers: &[u32],

@@ -11,7 +11,7 @@ use machine::Explained;
 
 // The numbers of `MavistableAnswer`, and for an abort its cause. What an ending does not tell is 0; reason 0: the run did not abort.
 #[repr(C)]
-#[derive(Drop)]
+#[derive(Clone, Copy)]
 pub struct MavistableExplanation {
     pub ending: u32,
     pub number: u32,
@@ -53,8 +53,7 @@ fn without_cause(
     }
 }
 
-#[unsafe(no_mangle)]
-pub extern "C" fn mavistable_explain(
+pub fn mavistable_explain(
     table: &[u32],
     inputs: &[u32],
     registers: &[u32],

@@ -13,7 +13,7 @@ use text::Scanner;
 use words::index;
 
 // What the numbers of a line ask for: where the register list starts, for a run, and where the table does.
-#[derive(Drop)]
+#[derive(Clone, Copy)]
 pub enum Case {
     Run(usize, usize),
     Check(usize),
@@ -76,7 +76,7 @@ impl Case {
 
 // A line that was read: the part of the input that it ended with, whether there was one before the input's end, and how many numbers it has. A
 // line of anything but numbers that single spaces part has none.
-#[derive(Drop)]
+#[derive(Clone, Copy)]
 pub struct Line {
     pub part: Part,
     pub found: bool,
@@ -84,7 +84,7 @@ pub struct Line {
 }
 
 // A line so far: the part of the input that was read last, its numbers, and how its bytes end.
-#[derive(Drop)]
+#[derive(Clone, Copy)]
 struct Progress {
     part: Part,
     scanner: Scanner,

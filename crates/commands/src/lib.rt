@@ -12,7 +12,7 @@ use steps::{BASE, BASES, END, ENDS, FAILED, FailedCheck, Memory, Slots, UNUSED, 
 use words::{index, low};
 
 // How a run ended: done with U; aborted with command number, U and the check that was not passed; out of memory with command number and U.
-#[derive(Drop)]
+#[derive(Clone, Copy)]
 pub enum Ended {
     Done(u32),
     Abort(u32, u32, FailedCheck),

@@ -14,7 +14,7 @@ use request::Request;
 use text::Scanner;
 
 // So many bytes are printed at the front of the output; or a list is too short, and nothing is done.
-#[derive(Drop)]
+#[derive(Clone, Copy)]
 pub enum Output {
     Printed(usize),
     TooShort,

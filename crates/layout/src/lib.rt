@@ -12,14 +12,14 @@ ghost use Rattle.layout.specs.Types.{types_fault, slot, Marks, Room, marked, fir
 use words::index;
 
 // Where a section's first entry stands, and how many entries it has.
-#[derive(Drop)]
+#[derive(Clone, Copy)]
 pub struct Section {
     pub at: usize,
     pub count: usize,
 }
 
 // The layout of a table: its six sections.
-#[derive(Drop)]
+#[derive(Clone, Copy)]
 pub struct Table {
     pub records: Section,
     pub fields: Section,
@@ -87,26 +87,26 @@ pub mod note {
     pub const PLACE: u32 = 1024;
 }
 
-#[derive(Drop)]
+#[derive(Clone, Copy)]
 enum Start {
     At(usize),
     Refused(u32, usize),
 }
 
-#[derive(Drop)]
+#[derive(Clone, Copy)]
 enum ParsedSection {
     Is(Section),
     Refused(u32, usize),
 }
 
 // A layout, or the number and the place of the refusal.
-#[derive(Drop)]
+#[derive(Clone, Copy)]
 pub enum Parsed {
     Is(Table),
     Refused(u32, usize),
 }
 
-#[derive(Drop)]
+#[derive(Clone, Copy)]
 pub enum Verdict {
     Passes,
     Refused(u32, usize),

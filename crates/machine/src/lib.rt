@@ -26,7 +26,7 @@ use table::note_edition;
 use words::{clear, clear_from, index, long, narrow, store_all};
 
 // How a call ended: refused with number and place; done with U; aborted or out of memory with command number and U.
-#[derive(Drop)]
+#[derive(Clone, Copy)]
 pub enum Answer {
     Refused(u32, usize),
     Done(u32),
@@ -36,7 +36,7 @@ pub enum Answer {
 
 // The check that a run aborted by: its node, the place and the number of words wanted, the bounds, a reason, and the first word of the variable or
 // block in which the bounds lie. Reasons: 1 no bounds, 2 before the base, 3 past the end.
-#[derive(Drop)]
+#[derive(Clone, Copy)]
 pub struct Cause {
     pub node: u32,
     pub place: u64,
@@ -48,7 +48,7 @@ pub struct Cause {
 }
 
 // How a call ended, as in `Answer`, and for an abort its cause.
-#[derive(Drop)]
+#[derive(Clone, Copy)]
 pub enum Explained {
     Refused(u32, usize),
     Done(u32),
@@ -371,7 +371,7 @@ pub fn explain(
 }
 
 // How a bare call ended: refused with number and place; done with U; out of memory or stuck with command number and U.
-#[derive(Drop)]
+#[derive(Clone, Copy)]
 pub enum BareAnswer {
     Refused(u32, usize),
     Done(u32),

@@ -24,7 +24,7 @@ const VOID: u32 = 1;
 const ENTRY: u32 = 2;
 
 // The type of a node that passes, or the refusal.
-#[derive(Drop)]
+#[derive(Clone, Copy)]
 pub enum Typed {
     Is(u32),
     Refused(u32, usize),

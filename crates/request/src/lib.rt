@@ -7,7 +7,7 @@ use text::Scanner;
 use words::index;
 
 // A run in memory of some length, of the table that starts at some place; or the numbers are no input.
-#[derive(Drop)]
+#[derive(Clone, Copy)]
 pub enum Request {
     Run(usize, usize),
     Malformed,

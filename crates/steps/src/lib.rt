@@ -53,7 +53,7 @@ const COPY: usize = 3;
 
 // A check that was not passed: its node, the place and the number of words wanted, and the bounds; and the start of the block that has the word
 // watched for, or 0.
-#[derive(Drop)]
+#[derive(Clone, Copy)]
 pub struct FailedCheck {
     pub node: u32,
     pub place: u64,

@@ -8,7 +8,7 @@ ghost use Rattle.stream.specs.Parts.{before, open_part, part_of, NextPart, free_
 use std::io::{Read, Write};
 
 // Bytes `from` to `to` of a buffer that holds `filled` bytes of the input. The next part starts at `next`.
-#[derive(Drop)]
+#[derive(Clone, Copy)]
 pub struct Part {
     pub from: usize,
     pub to: usize,

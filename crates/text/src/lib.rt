@@ -9,7 +9,7 @@ ghost use Rattle.text.specs.Decimal.{decimal, Puts, Written};
 use words::{long, low, wide};
 
 // How far a text has been read: how many numbers have ended, and the value of the number in progress.
-#[derive(Drop)]
+#[derive(Clone, Copy)]
 pub struct Scanner {
     pub count: usize,
     pub value: u32,

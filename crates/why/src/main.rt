@@ -23,7 +23,7 @@ use text::put_bytes;
 use words::{index, long};
 
 // What bounds lie in: a variable, by its number; a register, by its number in the list and its variable; a block, by its first word.
-#[derive(Drop)]
+#[derive(Clone, Copy)]
 enum Owner {
     Variable(u32),
     Register(u32, u32),
