@@ -1,5 +1,5 @@
 -- Words moved in each of the three lists behind an array of references.
-use Rattle.std.proofs.Common.{◌≡◌, ℕ, ◌≤◌, List, map, length, get_or, sym, ap, ◌∙◌, subst, arith, Bor}
+use Rattle.std.proofs.Common.{◌≡◌, ℕ, ◌≤◌, List, map, length, get_or, sym, ap, ◌∙◌, subst, arith, MutBor}
 use Rattle.words.specs.Columns.{column}
 use Rattle.words.proofs.Columns.{nothing, element, replaced, replaced_same, replaced_other, replaced_names}
 use Rattle.semantics.specs.Words.{moved}
@@ -7,7 +7,7 @@ use Rattle.semantics.proofs.Lists.{moved_nil}
 use Rattle.steps.specs.Answers.{Moved, Inside}
 
 -- The lists one after the other: m is the array, xs what its first list came to, ys its second, zs its third.
-module _ (m : List (Bor (List ℕ))) where
+module _ (m : List (MutBor (List ℕ))) where
   -- Words up to e lie in each list when its turn comes.
   pub first_inside : {e : ℕ} → Inside e (map (λ x. x.now) m) → e ≤ length (get_or m 0 nothing).now
   first_inside {e} h = subst (λ (x : List ℕ). e ≤ length x) (element m 0) h.values
@@ -26,7 +26,7 @@ module _ (m : List (Bor (List ℕ))) where
       pub third_inside : {e : ℕ} → Inside e (map (λ x. x.now) m) → e ≤ length (get_or (replaced (replaced m 0 xs) 1 ys) 2 nothing).now
       third_inside {e} h = subst (λ (x : List ℕ). e ≤ length x) (sym third) h.ends
 
-      pub names_kept : (zs : List ℕ) → map (λ x. x.name) (replaced (replaced (replaced m 0 xs) 1 ys) 2 zs) ≡ map (λ x. x.name) m
+      pub names_kept : (zs : List ℕ) → map (λ x. x.ghost_name) (replaced (replaced (replaced m 0 xs) 1 ys) 2 zs) ≡ map (λ x. x.ghost_name) m
       names_kept zs = replaced_names (replaced (replaced m 0 xs) 1 ys) 2 zs ∙ replaced_names (replaced m 0 xs) 1 ys ∙ replaced_names m 0 xs
 
       pub all_moved : (zs : List ℕ) {to from n : ℕ} → xs ≡ moved (get_or m 0 nothing).now to from n → ys ≡ moved (get_or (replaced m 0 xs) 1 nothing).now to from n
@@ -39,15 +39,15 @@ module _ (m : List (Bor (List ℕ))) where
             ends = there m₂ 2 (hz ∙ again (sym (element m₂ 2))) ∙ again (replaced_other m₁ 1 2 ys (λ z. omega arith) ∙ replaced_other m 0 2 xs (λ z. omega arith));
           }
         where
-          m₁ : List (Bor (List ℕ))
+          m₁ : List (MutBor (List ℕ))
           m₁ = replaced m 0 xs
 
-          m₂ : List (Bor (List ℕ))
+          m₂ : List (MutBor (List ℕ))
           m₂ = replaced (replaced m 0 xs) 1 ys
 
           again : {l l' : List ℕ} → l ≡ l' → moved l to from n ≡ moved l' to from n
           again e = ap (λ l. moved l to from n) e
 
-          there : (l : List (Bor (List ℕ))) (j : ℕ) {vs : List ℕ} → vs ≡ moved (column (map (λ x. x.now) l) j) to from n
+          there : (l : List (MutBor (List ℕ))) (j : ℕ) {vs : List ℕ} → vs ≡ moved (column (map (λ x. x.now) l) j) to from n
               → column (map (λ x. x.now) (replaced l j vs)) j ≡ moved (column (map (λ x. x.now) l) j) to from n
           there = replaced_same (λ l. moved l to from n) (moved_nil to from n)
