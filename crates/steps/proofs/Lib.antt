@@ -1,4 +1,3 @@
 -- Laws that the functions' proofs cite.
 pub mod Slots
 pub mod Finish
-pub mod Moving
