@@ -1,5 +1,5 @@
 -- The entries before i pass and are noted; entry i has an unknown target, one seen before, or is noted.
-use Rattle.std.proofs.Common.{ℕ, ◌≡◌, ◌≤◌, ◌<◌, ◌+◌, true, refl, sym, ap, ◌∙◌, arith, length-set}
+use Rattle.std.proofs.Common.{ℕ, ◌≡◌, ◌≤◌, ◌<◌, true, refl, sym, ap, ◌∙◌, arith, length-set}
 use Rattle.semantics.specs.Words.{Words, word}
 use Rattle.semantics.specs.Table.{count, known_target}
 use Rattle.semantics.specs.Check.{each}

@@ -1,5 +1,5 @@
 -- The parts are checked in the order of `types_fault`.
-use Rattle.std.proofs.Common.{◌≡◌, refl, sym, ◌∙◌, arith}
+use Rattle.std.proofs.Common.{refl, sym, ◌∙◌, arith}
 use Rattle.semantics.specs.Table.{count, first_field}
 use Rattle.layout.proofs.Laws.{refusal, or_else_refuse}
 use Rattle.layout.proofs.Lists.{filled_tabulated}
