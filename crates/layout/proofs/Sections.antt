@@ -1,18 +1,20 @@
 -- Laws of the check of sections.
 use Prim.Native.Nat.{ℕ, suc, ◌+◌, ◌*◌, ◌^◌, ◌≤◌, ◌<◌}
-use mathlib.Core.Path.{◌≡◌, refl}
+use mathlib.Core.Path.{◌≡◌, refl, ◌∙◌}
 use native.Mathlib.Omega.{arith}
 use borrow.Author.Tests.{le-ltb, lt-ltb, le-leb, lt-leb}
 use lib.ListN.{length}
 use Rattle.semantics.specs.Words.{Words, word}
-use Rattle.semantics.specs.Table.{entry_words, limits, count_place, count}
+use Rattle.semantics.specs.Table.{edition, entry_words, limits, count_place, count}
 use Rattle.semantics.specs.Check.{Verdict, passes, refused, ◌or_else◌, require, each, edition_fault, section_fault, words_over}
 use Rattle.semantics.proofs.Passed.{or_else_passes, each_passes, section_ok}
-use Rattle.layout.specs.Layout.{section_of, section_by, sections_fault, layout, layout_by, parsed, Stands, Laid_out}
+use Rattle.layout.specs.Layout.{start_by, section_of, section_by, sections_fault, layout, layout_by, parsed, Stands, Laid_out}
 use Rattle.layout.specs.declared.Section.{Section}
 use Rattle.layout.specs.declared.Table.{Table}
 use Rattle.layout.specs.declared.ParsedSection.{ParsedSection}
 use Rattle.layout.specs.declared.Parsed.TheVariants as table
+use Rattle.layout.specs.declared.Start.TheVariants.{At}
+use Rattle.layout.proofs.Editions.{started_at}
 use Rattle.layout.proofs.Laws.{each_refuses}
 use Rattle.layout.specs.declared.ParsedSection.TheVariants.{Is, Refused}
 
@@ -81,6 +83,28 @@ module _ (t : Words) (s : ℕ) (r : ParsedSection) where
   pub refused_at : (n p : ℕ) → s < 6 → Answer t s r → r ≡ Refused n p → table.Refused n p ≡ parsed t
   unfolding parsed ◌or_else◌
   refused_at n p h a q = rw (a.edition, ← each_refuses (section_fault t) s a.before 6 h (by_refused (section_fault t s) n p a.answer q)) refl
+
+-- What a call of `Section::parse` at place tells of its answer r.
+abbrev pub Told : Words → ℕ → ℕ → ℕ → ParsedSection → Type 0
+Told t place words limit r = (s : ℕ) → place ≡ count_place t s → words ≡ word entry_words s → limit ≡ word limits s → r ≡ section_by t s (section_fault t s)
+
+module _ (t : Words) where
+  pub first_answer : {p : ℕ} {r : ParsedSection} → length t < 2 ^ 64 → At p ≡ start_by (edition t) (edition_fault t) → Told t p 1 32 r → Answer t 0 r
+  unfolding each count_place
+  first_answer fits e told =
+      let first = started_at (edition t) (edition_fault t) e refl in
+      record { fits = fits; edition = first.0; before = refl; answer = told 0 first.1 refl refl }
+
+  pub next_answer : (s : ℕ) {l : Section} {place : ℕ} {r : ParsedSection} → ReadTo t s l → Told t place (word entry_words (suc s)) (word limits (suc s)) r
+      → place ≡ l.at + word entry_words s * l.count → Answer t (suc s) r
+  next_answer s g told e = record { fits = g.fits; edition = g.edition; before = g.passed; answer = told (suc s) (e ∙ g.next) refl refl }
+
+  pub first_read : {p : ℕ} {l : Section} → length t < 2 ^ 64 → At p ≡ start_by (edition t) (edition_fault t) → Told t p 1 32 (Is l) → ReadTo t 0 l
+  first_read {l = l} fits e told = read_to t 0 (Is l) l (first_answer fits e told) refl
+
+  pub next_read : (s : ℕ) {l l' : Section} {place : ℕ} → ReadTo t s l → Told t place (word entry_words (suc s)) (word limits (suc s)) (Is l')
+      → place ≡ l.at + word entry_words s * l.count → ReadTo t (suc s) l'
+  next_read s {l' = l'} g told e = read_to t (suc s) (Is l') l' (next_answer s g told e) refl
 
 -- Another edition follows the mark.
 pub other_edition : (t : Words) {n p : ℕ} → edition_fault t ≡ refused n p → table.Refused n p ≡ parsed t
