@@ -1,5 +1,5 @@
 -- `nodes::variable` meets its contract.
-use Rattle.std.proofs.Common.{arith, sym, ◌∙◌, refl, ◌+◌, lt-ltb, le-ltb, eq-eqb, ne_eqb}
+use Rattle.std.proofs.Common.{arith, ◌∙◌, refl, ◌+◌, lt-ltb, le-ltb, eq-eqb, ne_eqb}
 use Rattle.semantics.specs.Table.{variable, count}
 use Rattle.layout.proofs.Laws.{require_holds, require_refuses, or_else_pass, or_else_refuse, item_at}
 use Rattle.nodes.proofs.Answers.{both_pass, operand_refused, typed}
