@@ -30,13 +30,6 @@ pub unknown_high : (k : ℕ) → 12 ≤ k → kind_of k ≡ unknown
 unfolding kind_of
 unknown_high k h = get_or-eq_default kinds unknown h
 
--- What is left of each range.
-pub none_before : (k : ℕ) → k < 4 → (k ≡ 1 → ⊥) → (k ≡ 2 → ⊥) → (k ≡ 3 → ⊥) → k < 1
-none_before k l h₁ h₂ h₃ = omega arith
-
-pub last_value : (k : ℕ) → 4 ≤ k → k < 12 → (k ≡ 4 → ⊥) → (k ≡ 5 → ⊥) → (k ≡ 6 → ⊥) → (k ≡ 7 → ⊥) → (k ≡ 8 → ⊥) → (k ≡ 9 → ⊥) → (k ≡ 10 → ⊥) → k ≡ 11
-last_value k h l h₄ h₅ h₆ h₇ h₈ h₉ h₁₀ = le_antisymm (omega arith) (past (past (past (past (past (past (past h h₄) h₅) h₆) h₇) h₈) h₉) h₁₀)
-
 -- Of the kinds only 1 has all the bits of a variable.
 one_variable : ℕ → Bool
 one_variable k = ltb (bits (kind_of k) 0) 1536 || eqb k 1
