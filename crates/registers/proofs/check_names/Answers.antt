@@ -6,7 +6,7 @@ use Rattle.semantics.proofs.Registers.{register_inside}
 use Rattle.layout.specs.Layout.{Stands}
 use Rattle.layout.specs.declared.Section.{Section}
 use Rattle.layout.proofs.Laws.{each_more, each_refuses, each_all}
-use Rattle.registers.proofs.Lists.{place_none, place_more, whole_length, Marked, none_marked, one_marked, has_mark, no_pointer, named_again, name_passes}
+use Rattle.registers.proofs.Lists.{place_none, place_more, whole_length, none_marked, one_marked, has_mark, no_pointer, named_again, name_passes}
 use Rattle.registers.proofs.check_names.Goals as goal
 
 pub bounds-list-0 : goal.bounds-list-0
