@@ -3,7 +3,7 @@ use Prim.Native.Nat.{ℕ, ◌%◌, ◌≤◌, ◌<◌, ◌^◌}
 use mathlib.Core.Bool.{Bool, true, false}
 use mathlib.Core.Path.{◌≡◌, refl, sym, ap, ◌∙◌}
 use mathlib.Core.List.{List, ◌∷◌, map}
-use denote.Ref.{Bor}
+use denote.Ref.{MutBor}
 use native.Mathlib.Omega.{arith}
 use borrow.Author.Tests.{lt-ltb, le-leb}
 use lib.ListN.{length, set, length-set}
@@ -28,11 +28,11 @@ use Rattle.commands.specs.Command.{CommandReady, Stored, DoneIs, CommandAnswered
 
 -- ---- the store
 
-pub stored_int : {p v b e : ℕ} (m : List (Bor (List ℕ))) (w : ℕ) → p ≡ 0 → Stored p w v b e (map (λ x. x.now) m) (map (λ x. x.now) (put m 0 w v))
+pub stored_int : {p v b e : ℕ} (m : List (MutBor (List ℕ))) (w : ℕ) → p ≡ 0 → Stored p w v b e (map (λ x. x.now) m) (map (λ x. x.now) (put m 0 w v))
 unfolding is_pointer
 stored_int m w h = record { values = put_same m 0 w _; bases = rw h (put_other m 0 1 w _ (λ z. omega arith)); ends = rw h (put_other m 0 2 w _ (λ z. omega arith)) }
 
-pub stored_pointer : {p v b e : ℕ} (m : List (Bor (List ℕ))) (w : ℕ) → (p ≡ 0 → ⊥)
+pub stored_pointer : {p v b e : ℕ} (m : List (MutBor (List ℕ))) (w : ℕ) → (p ≡ 0 → ⊥)
     → Stored p w v b e (map (λ x. x.now) m) (map (λ x. x.now) (put (put (put m 0 w v) 1 w b) 2 w e))
 unfolding is_pointer
 stored_pointer {p} {v} {b} {e} m w h =
