@@ -124,11 +124,11 @@ fn after_bytes(spacing: u32, bytes: &[u8]) -> u32 {
 }
 
 // Reads and scans the next part of a line.
-fn take_part(buffer: &mut [u8], numbers: &mut [u32], p: Progress) -> Progress
+fn take_part(rt: HostRuntime, buffer: &mut [u8], numbers: &mut [u32], p: Progress) -> Progress
     requires { ScansLine numbers.old p.scanner }
     ensures { ScansLine numbers.new result.scanner }
 {
-    let part = stream::next_part(buffer, p.part, b'\n');
+    let part = stream::next_part(rt, buffer, p.part, b'\n');
     let from = part.from;
     let to = part.to;
     Progress {
@@ -161,10 +161,11 @@ fn finish_line(numbers: &mut [u32], p: Progress) -> Line
 
 // The line after the part `last`; its numbers are stored. A proved loop has to end, so this one counts its turns down from a number that no
 // line uses up.
-pub fn next_line(buffer: &mut [u8], numbers: &mut [u32], last: Part) -> Line
+pub fn next_line(rt: HostRuntime, buffer: &mut [u8], numbers: &mut [u32], last: Part) -> Line
     ensures { result.count ≤ length numbers.new }
 {
     let mut p = take_part(
+        rt,
         buffer,
         numbers,
         Progress {
@@ -176,7 +177,7 @@ pub fn next_line(buffer: &mut [u8], numbers: &mut [u32], last: Part) -> Line
     let mut state = p.part.state;
     let mut turns = u64::MAX;
     while turns > 0 && state == Part::OPEN {
-        p = take_part(buffer, numbers, p);
+        p = take_part(rt, buffer, numbers, p);
         state = p.part.state;
         turns -= 1;
     }

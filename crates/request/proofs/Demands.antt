@@ -11,7 +11,6 @@ use lib.Seq.{length-take-le, get_or-take, drop-drop, take-nil, take-take}
 use Rattle.text.specs.Numbers.{if◌then◌else◌, Contents, holds, malformed, numbers}
 use Rattle.text.specs.Scan.{within, Finished}
 use Rattle.text.specs.declared.Scanner.{Scanner}
-use Rattle.request.specs.declared.Request.{Request}
 use Rattle.request.specs.declared.Request.TheVariants.{Run, Malformed}
 use Rattle.request.specs.Request.{Demand, run, input, demand_after, demand_of, demand, stored, request_of, Requested}
 

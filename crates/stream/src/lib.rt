@@ -90,6 +90,21 @@ pub fn read_some(rt: HostRuntime, buffer: &mut [u8]) -> usize
     }
 }
 
+// Reads until a buffer is full, the input ends or a read fails, and tells how many bytes it has put at the buffer's start.
+pub fn read_full(rt: HostRuntime, buffer: &mut [u8]) -> usize
+    ensures { result ≤ length buffer.new }
+{
+    let mut done = 0;
+    while done < buffer.len() {
+        let n = read_some(rt, &mut buffer[done..]);
+        if n == 0 {
+            break;
+        }
+        done += n;
+    }
+    done
+}
+
 // The part after `last`, up to the byte b or the end of what is read. A read that fails ends the input.
 pub fn next_part(rt: HostRuntime, buffer: &mut [u8], last: Part, b: u8) -> Part
     ensures { NextPart buffer.old last b buffer.new result }
