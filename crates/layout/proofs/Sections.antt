@@ -8,7 +8,7 @@ use Rattle.semantics.specs.Words.{Words, word}
 use Rattle.semantics.specs.Table.{edition, entry_words, limits, count_place, count}
 use Rattle.semantics.specs.Check.{Verdict, passes, refused, ◌or_else◌, require, each, edition_fault, section_fault, words_over}
 use Rattle.semantics.proofs.Passed.{or_else_passes, each_passes, section_ok}
-use Rattle.layout.specs.Layout.{start_by, section_of, section_by, sections_fault, layout, layout_by, parsed, Stands, Laid_out}
+use Rattle.layout.specs.Layout.{start_by, section_of, section_by, sections_fault, layout, layout_by, parsed, Stands, LaidOut}
 use Rattle.layout.specs.declared.Section.{Section}
 use Rattle.layout.specs.declared.Table.{Table}
 use Rattle.layout.specs.declared.ParsedSection.{ParsedSection}
@@ -150,7 +150,7 @@ module _ (t : Words) where
   unfolding parsed
   parsed_refused e = layout_by_refused (sections_fault t) e
 
-  pub laid_out : (l : Table) → parsed t ≡ table.Is l → Laid_out t l
+  pub laid_out : (l : Table) → parsed t ≡ table.Is l → LaidOut t l
   unfolding parsed
   laid_out l e =
       let b = layout_by_is (sections_fault t) l e in

@@ -70,7 +70,7 @@ pub record Stands (t : Words) (s : ℕ) (l : Section) : Type 0 where
   pub extent : l.at + word entry_words s * l.count ≤ length t
 
 -- l is the layout of the table, and the checks of its sections pass.
-pub record Laid_out (t : Words) (l : Table) : Type 0 where
+pub record LaidOut (t : Words) (l : Table) : Type 0 where
   pub records_stand : Stands t records l.records
   pub fields_stand : Stands t fields l.fields
   pub pointers_stand : Stands t pointers l.pointers

@@ -5,7 +5,7 @@ ghost use Rattle.std.specs.Prelude.{◌≡◌, ℕ, ◌+◌, ◌≤◌, length, 
 ghost use Rattle.semantics.specs.Words.{Words, word};
 ghost use Rattle.semantics.specs.Table.{edition, count_place, count, entry_words, limits, known_type, known_target, first_field};
 ghost use Rattle.semantics.specs.Check.{edition_fault, each, section_fault, record_fault, field_fault, pointer_fault, variable_fault};
-ghost use Rattle.layout.specs.Layout.{verdict_of, edition_by, start_by, section_by, parsed, Stands, Laid_out};
+ghost use Rattle.layout.specs.Layout.{verdict_of, edition_by, start_by, section_by, parsed, Stands, LaidOut};
 ghost use Rattle.layout.specs.Lists.{filled, passed_below};
 ghost use Rattle.layout.specs.Types.{types_fault, slot, Marks, Room, marked, first_left, entry_left, Checked, LookedUp};
 
@@ -375,7 +375,7 @@ fn check_variables(t: &[u32], variables: Section, pointers: usize) -> Verdict
 // Refusals 4 to 6 of sections 1 to 4. Where these pass, the two lists are filled with what the check of nodes looks up; where one is
 // refused, they are as they were, or filled as far as the check had come.
 pub fn check_types(t: &[u32], l: Table, first: &mut Firsts, entry: &mut Entries) -> Verdict
-    requires laid_out { Laid_out t.now l }
+    requires laid_out { LaidOut t.now l }
     requires room { Room first.old entry.old }
     ensures found { Checked result (types_fault t.now) (LookedUp t.now first.new entry.new) }
     ensures lists { (first.new ≡ first_left t.now first.old) × (entry.new ≡ entry_left t.now entry.old) }

@@ -6,7 +6,7 @@ ghost use Rattle.semantics.specs.Words.{Words, word};
 ghost use Rattle.semantics.specs.Table.{edition, edition_2, nodes, count};
 ghost use Rattle.semantics.specs.Check.{each, node_fault, command_fault, use_fault};
 ghost use Rattle.semantics.proofs.Passed.{TypesPassed};
-ghost use Rattle.layout.specs.Layout.{verdict_of, Stands, Laid_out};
+ghost use Rattle.layout.specs.Layout.{verdict_of, Stands, LaidOut};
 ghost use Rattle.layout.specs.Types.{Checked, LookedUp};
 ghost use Rattle.nodes.specs.Promises.{NotedTo};
 ghost use Rattle.table.specs.Promises.{Clear, notes_noted, NodesNoted, command_verdict, CommandsReady, CommandsCounted, AllCounted, ListsReady, Checks, edition_noted};
@@ -24,7 +24,7 @@ fn check_nodes(
     notes: &mut Notes,
     uses: &mut Uses,
 ) -> Verdict
-    requires { (Laid_out t.now l) × (TypesPassed t.now) × (LookedUp t.now first.now entry.now) × (Clear notes.old uses.old) }
+    requires { (LaidOut t.now l) × (TypesPassed t.now) × (LookedUp t.now first.now entry.now) × (Clear notes.old uses.old) }
     ensures found { Checked result (each (count t.now nodes) (node_fault t.now)) (NodesNoted t.now notes.new uses.new (count t.now nodes)) }
     ensures lists { notes.new ≡ notes_noted t.now notes.old }
 {

@@ -6,7 +6,7 @@
 ghost use Rattle.std.specs.Prelude.{◌≤◌, ◌≡◌, [], ◌∷◌, length};
 ghost use Rattle.semantics.specs.Words.{word, if◌then◌else◌};
 ghost use Rattle.semantics.proofs.Registers.{Whole};
-ghost use Rattle.layout.specs.Layout.{Laid_out};
+ghost use Rattle.layout.specs.Layout.{LaidOut};
 ghost use Rattle.cases.specs.Cases.{Within};
 ghost use Rattle.machine.specs.Explain.{cause_told};
 ghost use Rattle.machine.specs.Run.{answer_of};
@@ -159,7 +159,7 @@ fn put_cause(
     command: u32,
     x: Cause,
 ) -> usize
-    requires { (Laid_out t.now l) × (Whole list.now) }
+    requires { (LaidOut t.now l) × (Whole list.now) }
     ensures { PutsItems (cause_line t.now list.now command (cause_told x)) out.old at out.new result }
 {
     let nodes = l.nodes;
@@ -189,7 +189,7 @@ fn put_not_aborted(out: &mut [u8], a: Answer) -> usize
 
 // All lines for a call.
 fn put_told(out: &mut [u8], t: &[u32], l: Table, list: &[u32], e: Explained) -> usize
-    requires { (Laid_out t.now l) × (Walkable list.now e) }
+    requires { (LaidOut t.now l) × (Walkable list.now e) }
     ensures { PutsItems (told_lines t.now list.now e) out.old 0 out.new result }
 {
     match e {
