@@ -1,5 +1,1 @@
 pub mod Reborrow
-pub mod Arguments
-pub mod Elements
-pub mod Walk
-pub mod Lending

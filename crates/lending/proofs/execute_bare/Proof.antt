@@ -1,110 +1,126 @@
--- `lending::execute_bare` meets its contract: `Lending.antt`, at its parameters and at the contract of `bare_commands::execute`.
-use mathlib.Core.Path.{refl}
-use Prim.Native.Nat.{ℕ}
-use mathlib.Core.List.{[], ◌∷◌, List, map}
-use seplogic.Ra.Ura.{Ura}
-use seplogic.Ra.TreeShare.PosShare
-use seplogic.Ra.TreeShare.{full_share}
-use mir.Syntax.{named, w32, w64}
-use mir.Val.{vptr}
-use base.Logic.{SProp, ent}
-use base.Fml.{flft, Incl-refl}
-use prog.Memory.{Memory}
-use prog.Routine.{Routine}
-use prog.Wp.{Calls, Loops, WpFn}
-use types.Logic.{Logic}
-use contract.Lifetimes.{Lfts, Shares, AllOutlive}
-use contract.Monad.{Fun}
-use contract.Running.{tables, tables_of}
-use sound.WpLaws.{FmC, fm_of}
-use denote.RattleType.{RattleType, flat}
-use denote.Plain.{uint_vals, uint_Tells, uint_Lawful}
+-- `lending::execute_bare` meets its contract: a walk of its MIR by hand, for the list that is lent as the element of an array (`Reborrow.antt`).
+use Rattle.std.proofs.Common.{◌≡◌, ℕ, List, [], ◌∷◌, map, refl, sym, subst, w32, w64, MutBor}
+use Rattle.std.proofs.raw_atomic.Walks.{proved}
+use base.Fraction.{full_share, left, right}
+use base.Logic.{id⊢}
+use base.Fml.{froom, flft, ftrue, Incl-refl}
+use mir.Syntax.{named}
+use mir.Val.{WT, vptr}
+use contract.Monad.{fact}
+use contract.Running.{tables}
+use types.Kit.{‵, raw, ◌⊛◌, some, later, ◌$◌, ◌∵◌, !, qed, move, keep, drop, use1, use3, split, join, fsplit, fjoin, feq_l, pick, await, suffices, frame, group, done}
+use types.Run.{enter, of_opd, addr, from, stop, no_more, and_then, returns}
+use types.Part.{agg}
+use types.ByLocal.{alloc_all, pass_all, free_all, look_at, get, sets, lands_as, take_at, give_at}
+use denote.Builtin.{u32, usize, SliceRefOf, RefOf, ArrayOf}
 use denote.Array.{Array}
-use denote.Ref.{Bor, ShrRef, shr_vals, shr_Tells, shr_Lawful}
-use denote.Slice.{ShrSlice, shr_slice_vals, mut_slice_Tells, shr_slice_Tells, shr_slice_Lawful}
-use denote.Steps.{said}
-use denote.Signature.{types_at}
-use denote.Triple.Entry.{Args, Vals}
+use denote.Exit.{yes}
+use denote.Laws.{shows, Is}
+use denote.Plain.{uint_vals, uint_Tells}
+use denote.Ref.{ShrRef, shr_vals, shr_Tells}
+use denote.Signature.{Slot, plain}
+use denote.Slice.{ShrSlice, shr_slice_vals, shr_slice_Tells, mut_slice_vals, mut_slice_Tells}
+use denote.Steps.{nothing, heard, peeks}
+use denote.Triple.Call.{calls_at}
+use denote.Triple.Clauses.{Lasts as Last_lists, lasts}
+use denote.Triple.Entry.{on_entry}
 use denote.Triple.Spec.{triple_of}
-use denote.Triple.Statement.{Contract, Triple}
-use denote.Triple.Table.{entered, cited}
-use denote.Triple.Walked.{needs}
-use denote.Builtin.{u32, usize}
+use denote.Triple.Table.{framed}
+use denote.Triple.Walked.{Stays, walk_of, says, stay_dropped, Goes-dropped, stay_slice, Goes-slice, ends_at}
 use denote.Enum.Laws as enum_laws
 use Rattle.bare_commands.specs.Execution.{Executable, Executed}
 use Rattle.bare_commands.specs.declared.Ended.{Ended}
 use Rattle.bare_commands.specs.contracts.Ended as ended
 use Rattle.bare_commands.proofs.Ended.TheLaws as ended-laws
 use Rattle.bare_commands.specs.contracts.execute as callee
-use Rattle.bare_commands.proofs.execute.Symbol as callee-def
-use Rattle.bare_commands.proofs.execute.Symbol.{name as #callee}
-use Rattle.bare_commands.proofs.execute.Met as callee-thm
-use Rattle.lending.proofs.Reborrow.{Lent, array_ref}
-use Rattle.lending.proofs.Lending.{lends_on}
-use Rattle.lending.specs.contracts.execute_bare.Key.{name as #caller}
-use Rattle.lending.specs.contracts.execute_bare as caller
-use Rattle.lending.proofs.execute_bare.Statement as stated
+use Rattle.bare_commands.proofs.execute.Met.{met}
+use Rattle.lending.proofs.Reborrow.{Lent, val, Made, Owned, Tokens, Lasts, array_ref, array_type, own_array, half₁, half₂, Lender, renamed, now_of, lends, comes_back, listed_now}
+use Rattle.lending.specs.contracts.execute_bare as f
+use Rattle.lending.proofs.execute_bare.Statement.{statement}
 use Rattle.lending.proofs.execute_bare.Code as code
 
-module _ {M : Type 1} {𝓤 : Ura M} (𝓛 : Logic 𝓤) (mem : Memory → SProp 𝓤) (run : Routine → Fun 𝓤) where
-  open 𝓛 use {H}
+-- The slots of t and l.
+abbrev table : Slot 4
+table = SliceRefOf (0 ∷ []) tt (plain (λ _. u32)) (λ _. tt)
 
-  abbrev Callee : Contract 𝓤
-  Callee = triple_of 𝓛 callee.signature (callee.spec 𝓛 mem run)
+abbrev seven : Slot 4
+seven = RefOf (1 ∷ []) tt (ArrayOf (SliceRefOf (2 ∷ []) tt (plain (λ _. u32)) (λ _. tt)) (λ _. tt) 7) (λ _. tt)
 
-  abbrev Caller : Contract 𝓤
-  Caller = triple_of 𝓛 caller.signature (caller.spec 𝓛 mem run)
+abbrev stayed : Stays f.ended.signature.params f.ended.kept
+stayed = (stay_dropped table yes, (stay_dropped (plain (λ _. usize)) yes, (stay_dropped (plain (λ _. u32)) yes, (stay_dropped seven yes, (stay_dropped (plain (λ _. u32)) yes, (stay_slice (3 ∷ []) tt (plain (λ _. u32)), tt))))))
 
-  module _ (C : Calls 𝓤 H) (Λ : Loops 𝓤 H) (fm : FmC 𝓤 H 𝓛.laws C) (known : Triple 𝓤 (C #callee) Callee)
-      (κs : Lfts 4) (qs : Shares 4) (bounds : AllOutlive 4 (caller.signature).outlives κs) (t : Bor (List ℕ)) (at total : ℕ) (l : Bor (List (Bor (List ℕ)))) (first : ℕ) (values : Bor (List ℕ)) where
-    -- What both require, and what both ensure of the lists m.
-    abbrev Requires : Type 0
-    Requires = Executable t.now (map (λ x. x.now) l.now) at total (values.now ∷ [])
-
-    abbrev Ensures : Ended → List (List ℕ) → Type 0
-    Ensures r m = Executed t.now (values.now ∷ []) first r m
-
-    -- The list, with its lifetime and a share of the token.
-    abbrev v : Lent ℕ
-    v = record { life = κs.1.1.1.0; share = qs.1.1.1.0; ref = values }
-
-    -- What l refers to.
-    abbrev behind-l : RattleType
-    behind-l = Array (ShrSlice (named 2) κs.1.1.0 u32) 7
-
-    abbrev a : Args caller.signature κs
-    a = (t, (at, (total, (l, (first, (values, tt))))))
-
-    meets_at : (vss : Vals caller.signature κs) → ent 𝓤 (Caller.pre ((κs, qs, bounds, a, vss), tt)) (WpFn 𝓤 H C Λ code.function (Caller.args ((κs, qs, bounds, a, vss), tt)) (Caller.post ((κs, qs, bounds, a, vss), tt)))
-    meets_at vss = needs 𝓤 Requires _ (λ req. said 𝓛 caller.signature κs qs
-        (shr_slice_vals, (uint_vals w64, (uint_vals w32, (shr_vals, (uint_vals w32, (shr_slice_vals, tt))))))
-        (shr_slice_Tells (named 0) κs.0 u32, (uint_Tells w64, (uint_Tells w32, (shr_Tells (named 1) κs.1.0 behind-l, (uint_Tells w32, (mut_slice_Tells (named 3) v.life u32, tt))))))
-        a (λ us. WpFn 𝓤 H C Λ code.function (flat (types_at (caller.signature).params κs) us) (Caller.post ((κs, qs, bounds, a, us), tt))) vss (λ are.
-        lends_on 𝓛 C Λ fm #callee (flft κs.0 qs.0 ∷ flft κs.1.0 qs.1.0 ∷ flft κs.1.1.0 qs.1.1.0 ∷ [])
-        (ShrSlice (named 0) κs.0 u32 ∷ usize ∷ u32 ∷ ShrRef (named 1) κs.1.0 behind-l ∷ u32 ∷ [])
-        (shr_slice_Lawful 𝓛 (named 0) κs.0 u32, (uint_Lawful 𝓛 w64, (uint_Lawful 𝓛 w32, (shr_Lawful 𝓛 (named 1) κs.1.0 behind-l, (uint_Lawful 𝓛 w32, tt)))))
-        (t, (at, (total, (l, (first, tt))))) (shr_slice_vals t, (uint_vals w64 at, (uint_vals w32 total, (shr_vals l, (uint_vals w32 first, tt))))) (are.0, (are.1.0, (are.1.1.0, (are.1.1.1.0, (are.1.1.1.1.0, tt)))))
-        u32 v [] (named 3, tt) are.1.1.1.1.1 ended.the_row (enum_laws.lawful ended.the_type ended-laws.the_laws 𝓛 tt) Ensures Requires
-        (λ m g. known (
-          (
-            (κs.0, (κs.1.0, (κs.1.1.0, (g.call ∷ [], (g.call ∷ [], tt))))),
-            (qs.0, (qs.1.0, (qs.1.1.0, (PosShare.left full_share, (PosShare.right full_share, tt))))),
-            (bounds.0, (Incl-refl (g.call ∷ []), tt)),
-            (t, (at, (total, (l, (first, (array_ref u32 (v ∷ []) m g, tt)))))),
-            (shr_slice_vals t, (uint_vals w64 at, (uint_vals w32 total, (shr_vals l, (uint_vals w32 first, (vptr m 0 ∷ [], tt)))))),
-          ),
-          tt,
-        ))
-        req code.function refl))
-
-  meets : (C : Calls 𝓤 H) (Λ : Loops 𝓤 H) → FmC 𝓤 H 𝓛.laws C → Triple 𝓤 (C #callee) Callee → Triple 𝓤 (WpFn 𝓤 H C Λ code.function) Caller
-  meets C Λ fm known y =
-      let a : Args caller.signature y.0.0 = y.0.3 in
-      meets_at C Λ fm known y.0.0 y.0.1 y.0.2 a.0 a.1.0 a.1.1.0 a.1.1.1.0 a.1.1.1.1.0 a.1.1.1.1.1.0 y.0.4
-
-pub execute-bare-spec : {M : Type 1} → stated.statement M
-unfolding code.routine tables_of
-execute-bare-spec 𝓤 𝓛 𝓜 𝓡 =
-    entered 𝓤 𝓛.H (Caller 𝓛 𝓜.mem 𝓡.run) (tables 𝓤 𝓛.H 𝓜 𝓡 code.env).C (tables 𝓤 𝓛.H 𝓜 𝓡 code.env).Λ #caller code.function (code.unfolded 𝓤 𝓛.H 𝓜 𝓡)
-    (meets 𝓛 𝓜.mem 𝓡.run (tables 𝓤 𝓛.H 𝓜 𝓡 code.env).C (tables 𝓤 𝓛.H 𝓜 𝓡 code.env).Λ (fm_of 𝓤 𝓛.H 𝓛.laws (tables_of 𝓤 𝓛.H 𝓜 (tables 𝓤 𝓛.H 𝓜 𝓡 code.env)))
-    (cited 𝓤 𝓛.H (Callee 𝓛 𝓜.mem 𝓡.run) 𝓜 𝓡 code.env #callee callee-def.routine code.calls-bare-commands::execute (callee-thm.met 𝓤 𝓛 𝓜 𝓡)))
+pub execute_bare_spec : {M : Type 1} → statement M
+execute_bare_spec 𝓤 𝓛 𝓜 𝓡 wired =
+    let c = f.clauses 𝓛 𝓜.mem 𝓡.returns in let W = walk_of 𝓛 f.ended stayed c in
+    proved 𝓛 f.ended stayed c 𝓜 𝓡
+    (Goes-dropped 𝓛 4 table yes (λ κs x w. refl), (Goes-dropped 𝓛 4 (plain (λ _. usize)) yes (λ κs x w. refl), (Goes-dropped 𝓛 4 (plain (λ _. u32)) yes (λ κs x w. refl), (Goes-dropped 𝓛 4 seven yes (λ κs x w. refl), (Goes-dropped 𝓛 4 (plain (λ _. u32)) yes (λ κs x w. refl), (Goes-slice 𝓛 4 3 tt (plain (λ _. u32)), tt))))))
+    f.Key.name code.function (code.unfolded 𝓤 𝓛.H 𝓜 𝓡 wired)
+    (λ κs. (shr_slice_vals, (uint_vals w64, (uint_vals w32, (shr_vals, (uint_vals w32, (mut_slice_vals, tt)))))))
+    (λ κs. (shr_slice_Tells (named 0) κs.0 u32, (uint_Tells w64, (uint_Tells w32, (shr_Tells (named 1) κs.1.0 (Array (ShrSlice (named 2) κs.1.1.0 u32) 7), (uint_Tells w32, (mut_slice_Tells (named 3) κs.1.1.1.0 u32, tt)))))))
+    (λ κs qs bounds a _ are.
+    let κt = κs.0 in let κl = κs.1.0 in let κl' = κs.1.1.0 in
+    let t = a.0 in let at = a.1.0 in let total = a.1.1.0 in let l = a.1.1.1.0 in let first = a.1.1.1.1.0 in
+    let v : Lent ℕ = record { life = κs.1.1.1.0; share = qs.1.1.1.0; ref = a.1.1.1.1.1.0 } in
+    let ss : List (Lent ℕ) = v ∷ [] in
+    let behind-l = Array (ShrSlice (named 2) κl' u32) 7 in
+    let wt : WT (val v) = (tt, (record { fits = are.1.1.1.1.1.0.0.1.0 }, tt)) in
+    let y : W.Ghost = ((κs, qs, bounds, a, (shr_slice_vals t, (uint_vals w64 at, (uint_vals w32 total, (shr_vals l, (uint_vals w32 first, (mut_slice_vals v.ref, tt))))))), tt) in
+    let Ot = (ShrSlice (named 0) κt u32).own_val t (shr_slice_vals t) in
+    let Oat = usize.own_val at (uint_vals w64 at) in
+    let Ototal = u32.own_val total (uint_vals w32 total) in
+    let Ol = (ShrRef (named 1) κl behind-l).own_val l (shr_vals l) in
+    let Ofirst = u32.own_val first (uint_vals w32 first) in
+    qed 𝓛 (((‵ (flft κt qs.0) ⊛ ‵ (flft κl qs.1.0) ⊛ ‵ (flft κl' qs.1.1.0) ⊛ ‵ (Tokens u32 ss)) ⊛ ‵ Ot ⊛ ‵ Oat ⊛ ‵ Ototal ⊛ ‵ Ol ⊛ ‵ Ofirst ⊛ ‵ (Owned u32 ss))
+    ∷ raw (fact 𝓤 (Executable t.now (map (λ x. x.now) l.now) at total (v.ref.now ∷ []))) ∷ []) ∵
+    move ! (1 ∷ []) $ heard ! _ (λ req.
+    split ! $ split ! $ move ! (1 ∷ []) $ split ! $ move ! (1 ∷ []) $ split ! $ move ! (4 ∷ []) $
+    split ! $ move ! (1 ∷ []) $ split ! $ move ! (1 ∷ []) $ split ! $ move ! (1 ∷ []) $ split ! $ move ! (1 ∷ []) $ split ! $
+    -- [first; the list; l; total; at; t; κl'; the list's token; κl; κt]
+    move ! (7 ∷ 1 ∷ []) $
+    enter ! _ _ _ _ _ $ alloc_all ! (λ n. pass_all ! refl ((tt, (tt, (record { fits = are.0.0.1.0 }, tt))), ((tt, record { fits = are.1.0.1 }), ((tt, record { fits = are.1.1.0.1 }), ((tt, tt), ((tt, record { fits = are.1.1.1.1.0.1 }), ((tt, wt), tt)))))) $
+    -- let mut m = [values];
+    sets ! (of_opd ! (get ! refl)) refl (tt, wt) $
+    sets ! (agg ! (and_then ! (get ! refl) (no_more !))) refl (tt, (wt, tt)) $
+    sets ! (addr ! (from ! (stop !))) refl (tt, tt) $
+    -- the list is lent again as the array's element, and the array is lent
+    take_at ! 7 $ move ! (2 ∷ 1 ∷ 0 ∷ []) $
+    use3 𝓛 (later (some (λ (g : Made ss). ‵ (half₁ u32 ss (n 7) g) ⊛ ‵ (half₂ u32 ss (n 7) g) ⊛ ‵ (own_array u32 ss (n 7) g) ⊛ Lender u32 ss (n 7) 𝓛 g))) (lends u32 ss (n 7) 𝓛) $ await ! tt $ pick ! (λ g.
+    split ! $ move ! (1 ∷ []) $ split ! $ move ! (1 ∷ []) $ split ! $
+    -- [the array's reference; what is kept; half₂; half₁; first; l; total; at; t; κl'; κl; κt]
+    let G = triple_of 𝓛 callee.signature (callee.spec 𝓛 𝓜.mem 𝓡.returns) in
+    let z : G.Ghost = (
+      (
+        (κt, (κl, (κl', (g.call ∷ [], (g.call ∷ [], tt))))),
+        (qs.0, (qs.1.0, (qs.1.1.0, (left full_share, (right full_share, tt))))),
+        (bounds.0, (Incl-refl (g.call ∷ []), tt)),
+        (t, (at, (total, (l, (first, (array_ref u32 ss (n 7) g, tt)))))),
+        (shr_slice_vals t, (uint_vals w64 at, (uint_vals w32 total, (shr_vals l, (uint_vals w32 first, (vptr (n 7) 0 ∷ [], tt)))))),
+      ),
+      tt,
+    ) in
+    nothing ! $ move ! (1 ∷ 0 ∷ []) $ fjoin ! $ move ! (4 ∷ 0 ∷ []) $ fjoin ! $ move ! (4 ∷ 0 ∷ []) $ fjoin ! $ move ! (4 ∷ 0 ∷ []) $ fjoin ! $ move ! (4 ∷ 0 ∷ []) $ fjoin ! $ move ! (4 ∷ 0 ∷ []) $ fjoin ! $
+    nothing ! $ move ! (3 ∷ 0 ∷ []) $ join ! $ move ! (3 ∷ 0 ∷ []) $ join ! $ move ! (3 ∷ 0 ∷ []) $ join ! $ move ! (3 ∷ 0 ∷ []) $ join ! $ move ! (3 ∷ 0 ∷ []) $ join ! $ join ! $
+    use1 𝓛 (raw (G.pre z)) (qed 𝓛 (raw (on_entry 𝓛 callee.signature z.0.0 z.0.1 z.0.3 z.0.4) ∷ []) ∵ says ! req $ done !) $
+    calls_at ! (framed 𝓤 𝓛.H 𝓜 (tables 𝓤 𝓛.H 𝓜 𝓡 𝓡.env)) G (met 𝓤 𝓛 𝓜 𝓡 (code.calls-bare_commands::execute 𝓡.env wired)) z
+    (and_then ! (get ! refl) (and_then ! (get ! refl) (and_then ! (get ! refl) (and_then ! (get ! refl) (and_then ! (get ! refl) (and_then ! (get ! refl) (no_more !))))))) (λ w.
+    use1 𝓛 (later (some (λ (r : Ended). ((‵ (flft κt qs.0) ⊛ ‵ (flft κl qs.1.0) ⊛ ‵ (flft κl' qs.1.1.0) ⊛ ‵ (half₁ u32 ss (n 7) g) ⊛ ‵ (half₂ u32 ss (n 7) g) ⊛ ‵ ftrue) ⊛ ‵ ((ended.the_row).own_val r (w ∷ [])))
+    ⊛ some (λ (ws : Last_lists callee.ended z.0.0 z.0.3). ‵ (lasts callee.ended z.0.0 z.0.3 ws)
+    ⊛ raw (fact 𝓤 (Executed t.now (v.ref.now ∷ []) first r (map (λ x. x.now) ws.1.1.1.1.1.0) × (map (λ x. x.ghost_name) ws.1.1.1.1.1.0 ≡ map (λ x. x.ghost_name) (renamed ss g.names)))))))) (id⊢ 𝓤 _) $
+    await ! tt $ pick ! (λ r. split ! $ split ! $ move ! (2 ∷ []) $ pick ! (λ ws. split ! $ move ! (1 ∷ []) $ heard ! _ (λ e.
+    let m : List (MutBor (List ℕ)) = ws.1.1.1.1.1.0 in
+    fsplit ! $ drop ! $ fsplit ! $ drop ! $ fsplit ! $ drop ! $ fsplit ! $ drop ! $ fsplit ! $ drop ! $ fsplit ! $ fsplit ! $
+    -- [the array's last value; its borrow; nothing; the tokens; the result; what is kept]. The lifetime ends, and the list comes back
+    move ! (3 ∷ []) $ split ! $ move ! (1 ∷ []) $ split ! $ move ! (1 ∷ []) $ split ! $ move ! (1 ∷ []) $ split ! $ move ! (1 ∷ []) $ split ! $ move ! (2 ∷ 0 ∷ 6 ∷ 10 ∷ []) $ group ! 4 $
+    use1 𝓛 (later (‵ (froom (array_type u32 ss (n 7)) (n 7) 0) ⊛ ‵ (Tokens u32 ss) ⊛ ‵ (Lasts u32 ss (now_of ss m)))) (comes_back u32 ss (n 7) 𝓛 g m e.1) $ await ! tt $ split ! $ give_at ! 7 $
+    -- [the list and its token; nothing; κl'; κl; κt; the array's borrow; nothing; the result]
+    move ! (7 ∷ []) $ peeks ! ended.the_row (Is ended.the_row) (shows 𝓛 ended.the_row) r (w ∷ []) (λ is.
+    let typed = (enum_laws.lawful ended.the_type ended-laws.the_laws 𝓛 tt).typed r (w ∷ []) is in
+    lands_as ! refl refl typed.0 $
+    returns ! (look_at ! 0 refl) $ free_all ! refl $
+    move ! (1 ∷ []) $ split ! $ move ! (4 ∷ 0 ∷ []) $ join ! $ move ! (4 ∷ 0 ∷ []) $ join ! $ move ! (4 ∷ 0 ∷ []) $ join ! $
+    -- [the tokens; the list; the result]
+    move ! (1 ∷ []) $ fsplit ! $ fsplit ! $ move ! (1 ∷ []) $ feq_l ! (λ k.
+    -- [the list; nothing; the tokens; the result]
+    suffices ! _ (ends_at 𝓛 f.ended stayed c y w r (tt, (tt, (tt, (tt, (tt, ((now_of ss m).0, tt)))))) (tt, (tt, (tt, (tt, (tt, (k, tt))))))) $
+    says ! (subst (Executed t.now (v.ref.now ∷ []) first r) (sym (listed_now ss g.names m e.1)) e.0) $ move ! (2 ∷ []) $ frame ! $
+    fjoin ! $ nothing ! $ fjoin ! $ nothing ! $ fjoin ! $ nothing ! $ fjoin ! $ nothing ! $ fjoin ! $ nothing ! $ fjoin ! $ frame ! $ keep ! (0 ∷ []) $ done !))))))))))
