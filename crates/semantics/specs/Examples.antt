@@ -1,6 +1,6 @@
 -- Document 01's own examples, its refusals, starred runs and routine A, as one table each, and registers and steps along records beside them:
 -- what is called, and what must be answered. proofs/Examples.antt computes the tables.
-use Rattle.std.specs.Prelude.{ℕ, ◌+◌, List, [], ◌∷◌, ◌++◌, map, replicate}
+use Rattle.std.specs.Prelude.{ℕ, List, [], ◌∷◌, ◌++◌, map, replicate}
 use Rattle.semantics.specs.Words.{Words}
 use Rattle.semantics.specs.Check.{Verdict, passes, refused}
 use Rattle.semantics.specs.Rules.{Datum, unbounded}

@@ -1,3 +1,2 @@
 // No code: the definitions are in specs/, the theorems about them in proofs/.
 #![tactic(auto)]
-
