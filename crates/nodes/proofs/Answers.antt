@@ -1,21 +1,18 @@
 -- Laws of the check of a node: after its kind, of its children, and as a whole.
 use Prim.Native.Nat.{ℕ, suc, ◌+◌, ◌<◌, ◌%◌}
-use mathlib.Core.Bool.{Bool, true, false}
+use mathlib.Core.Bool.{true, false}
 use mathlib.Core.Path.{◌≡◌, refl, sym, ◌∙◌, ap}
 use mathlib.Core.List.{[], ◌∷◌, ◌++◌}
 use native.Mathlib.Omega.{arith}
-use native.Mathlib.Decide.{ℕ_discrete}
-use borrow.Author.Tests.{ltb-true, eq-eqb, ne_eqb}
+use borrow.Author.Tests.{ltb-true}
 use lib.Dec.{eqb}
-use lib.ListN.{length, set, length-set}
-use lib.Seq.{get_or-set_same, get_or-set_other}
-use Rattle.semantics.specs.Words.{Words, word, if◌then◌else◌}
+use lib.ListN.{length, set}
+use Rattle.semantics.specs.Words.{Words, word}
 use Rattle.semantics.specs.Table.{edition_1, nodes, count, item_place, item, known_type, Kind, field, read, unknown, Sort, neither, sort_of, Operand, operand_a, operand_b, child, children, type_rule, types_below, node_type, node_kind, node_a, node_b, pointed_record, points_to_record, kind_of}
 use Rattle.semantics.specs.Table as table
-use Rattle.semantics.specs.Check.{Verdict, passes, refused, ◌or_else◌, require, each, same_sort, is_child, operand_fault, types_fit, node_fault, occurrences}
+use Rattle.semantics.specs.Check.{Verdict, passes, refused, ◌or_else◌, require, each, same_sort, is_child, operand_fault, types_fit, node_fault}
 use Rattle.semantics.proofs.Passed.{or_else_passes, require_passes, each_passes}
 use Rattle.semantics.proofs.Trees.{is_child_true, types_known}
-use Rattle.layout.specs.Layout.{verdict_of}
 use Rattle.layout.specs.Lists.{by_verdict}
 use Rattle.layout.specs.Notes.{bits, note}
 use Rattle.layout.specs.declared.Verdict as answer

@@ -3,7 +3,6 @@ use Prim.Native.Nat.{ℕ, ◌+◌, ◌/◌, ◌≤◌, ◌<◌, ◌%◌}
 use mathlib.Core.Bool.{Bool, true, false, not, ◌||◌, true≢false}
 use mathlib.Core.Path.{◌≡◌, refl, sym, ◌∙◌}
 use native.Mathlib.Omega.{arith}
-use native.Mathlib.Nat.{le_antisymm}
 use native.Mathlib.Decide.{dec_lt, ℕ_discrete}
 use borrow.Author.Tests.{lt-ltb, le-ltb, ltb-true, eqb-true, ne_eqb}
 use lib.Dec.{ltb, eqb}
@@ -12,7 +11,6 @@ use Rattle.semantics.specs.Words.{Words, word}
 use Rattle.semantics.specs.Table.{edition_1, nodes, item, known_type, variable, read, unknown, kinds, kind_of, Sort, place, value, neither, sort_of, node_kind, types_below, node_type}
 use Rattle.semantics.specs.Check.{passes, ◌or_else◌, require, each, same_sort, is_child, node_fault}
 use Rattle.semantics.proofs.Passed.{or_else_passes, require_passes, each_passes}
-use Rattle.semantics.proofs.Tests.{past}
 use Rattle.semantics.proofs.Trees.{types_at, types_known}
 use Rattle.layout.specs.Notes.{bits, note}
 use Rattle.layout.proofs.Notes.{type_noted, variable_noted, place_noted, place_high}

@@ -1,8 +1,8 @@
 -- What the functions of this crate require and promise.
 use Rattle.std.specs.Prelude.{ℕ, ◌+◌, ◌≤◌, ◌<◌, ◌≡◌, [], ◌∷◌, eqb, length}
 use Rattle.semantics.specs.Words.{Words, word, sum_below}
-use Rattle.semantics.specs.Table.{Edition, edition_1, edition_2, edition, records, nodes, count, record_target, field_total, first_field, field_offset, size_of, place, value, children, node_type}
-use Rattle.semantics.specs.Check.{Verdict, passes, ◌or_else◌, require, each, node_fault, is_child, occurrences, command_place, command_value, uses, check}
+use Rattle.semantics.specs.Table.{Edition, edition_1, edition_2, records, nodes, count, record_target, field_total, first_field, field_offset, size_of, place, value, children, node_type}
+use Rattle.semantics.specs.Check.{Verdict, passes, ◌or_else◌, require, node_fault, is_child, occurrences, command_place, command_value, uses, check}
 use Rattle.layout.specs.Layout.{sections_fault, layout_by}
 use Rattle.layout.specs.Lists.{filled, by_verdict, passed_below}
 use Rattle.layout.specs.Types.{types_fault, Tabulated, first_left}

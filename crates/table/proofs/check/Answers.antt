@@ -18,8 +18,7 @@ returns-in-Refused-check_types c = types_ended _ _ _ _ _ (parsed_passes _ _ (sym
 pub check_nodes-requires : goal.check_nodes-requires
 check_nodes-requires c =
     let sections = parsed_passes c.args.t.now _ (sym c.in-Is.ensures) in
-    let types = sym c.in_default.ensures.found.verdict in
-    (
+    let types = sym c.in_default.ensures.found.verdict in (
       laid_out c.args.t.now _ (sym c.in-Is.ensures),
       types_passed _ sections types,
       c.in_default.ensures.found.found types,

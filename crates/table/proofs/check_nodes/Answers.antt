@@ -1,5 +1,5 @@
 -- `table::check_nodes` meets its contract.
-use Rattle.std.proofs.Common.{arith, sym, ◌≡◌}
+use Rattle.std.proofs.Common.{arith, sym}
 use Rattle.layout.proofs.Laws.{refusal, each_refuses}
 use Rattle.layout.proofs.Lists.{filled_none}
 use Rattle.table.proofs.Nodes.{nodes_none, reached, room, nodes_more, notes_all, notes_more, notes_to}

@@ -1,5 +1,5 @@
 -- `table::check_uses` meets its contract.
-use Rattle.std.proofs.Common.{arith, sym, refl}
+use Rattle.std.proofs.Common.{arith, refl}
 use Rattle.semantics.specs.Table.{count}
 use Rattle.semantics.specs.Check.{use_fault}
 use Rattle.layout.proofs.Laws.{each_refuses, each_all}
