@@ -2,7 +2,7 @@
 use Prim.Native.Nat.{ℕ, ◌<◌}
 use mathlib.Core.Path.{◌≡◌, refl, sym, ap, subst}
 use mathlib.Core.List.{List, map}
-use denote.Ref.{Bor, MutBor}
+use denote.Ref.{MutBor}
 use native.Mathlib.Omega.{arith}
 use lib.ListN.{length}
 use Rattle.words.specs.Columns.{column}
@@ -42,11 +42,11 @@ worked_out (answers_failed log h watch) g under = absurd (omega arith)
 worked_out (answers_full log h) g under = absurd (omega arith)
 
 -- A call that only reads memory leaves its lists, and their names.
-pub kept_lists : {l m : List Words} {n r : ℕ} {s s' : Words} {m₁ m₂ : List (Bor (List ℕ))} → m₂ ≡ m₁ → ValueAnswered l m n s r (map (λ x. x.now) m₁) s' → ValueAnswered l m n s r (map (λ x. x.now) m₂) s'
+pub kept_lists : {l m : List Words} {n r : ℕ} {s s' : Words} {m₁ m₂ : List (MutBor (List ℕ))} → m₂ ≡ m₁ → ValueAnswered l m n s r (map (λ x. x.now) m₁) s' → ValueAnswered l m n s r (map (λ x. x.now) m₂) s'
 kept_lists {l} {m} {n} {r} {s} {s'} same h = subst (λ x. ValueAnswered l m n s r (map (λ x. x.now) x) s') (sym same) h
 
-pub kept_names : {m₁ m₂ : List (MutBor (List ℕ))} → m₂ ≡ m₁ → map (λ x. x.name) m₂ ≡ map (λ x. x.name) m₁
-kept_names same = ap (map (λ x. x.name)) same
+pub kept_names : {m₁ m₂ : List (MutBor (List ℕ))} → m₂ ≡ m₁ → map (λ x. x.ghost_name) m₂ ≡ map (λ x. x.ghost_name) m₁
+kept_names same = ap (map (λ x. x.ghost_name)) same
 
 -- Less is asked of a result.
 pub weakened : {A : Type 0} {Is Child : A → ℕ → Words → Type 0} {m : List Words} {w r : ℕ} {s : Words} {o : Outcome A} → ((x : A) → Is x r s → Child x r s) → Answers Is w m r s o → Answers Child w m r s o
@@ -61,6 +61,6 @@ pub place_only : {r : ℕ} {s : Words} (x : Location) → LocationIs x r s → P
 place_only x h = record { at = h.at }
 
 -- Where two ways meet, what was answered on each is what the joined values are.
-pub joined : {l m : List Words} {n v v' : ℕ} {s s₁ s₁' : Words} {m₁ m₁' : List (Bor (List ℕ))} → m₁' ≡ m₁ → s₁' ≡ s₁ → v' ≡ v
+pub joined : {l m : List Words} {n v v' : ℕ} {s s₁ s₁' : Words} {m₁ m₁' : List (MutBor (List ℕ))} → m₁' ≡ m₁ → s₁' ≡ s₁ → v' ≡ v
     → ValueAnswered l m n s v (map (λ x. x.now) m₁) s₁ → ValueAnswered l m n s v' (map (λ x. x.now) m₁') s₁'
 joined hm hs hv h = rw (hm, hs, hv) h
