@@ -1,4 +1,5 @@
 -- What a command answers, from what its place, its value and its store did.
+use Rattle.std.specs.Prelude.{if◌then◌else◌}
 use Prim.Native.Nat.{ℕ, ◌%◌, ◌≤◌, ◌<◌, ◌^◌}
 use mathlib.Core.Bool.{Bool, true, false}
 use mathlib.Core.Path.{◌≡◌, refl, sym, ap, ◌∙◌}
@@ -9,7 +10,7 @@ use borrow.Author.Tests.{lt-ltb, le-leb}
 use lib.ListN.{length, set, length-set}
 use Rattle.words.specs.Columns.{column}
 use Rattle.words.proofs.Columns.{put, put_same, put_other}
-use Rattle.semantics.specs.Words.{Words, word, if◌then◌else◌}
+use Rattle.semantics.specs.Words.{Words, word}
 use Rattle.semantics.specs.Table.{is_pointer}
 use Rattle.semantics.specs.Syntax.{place_of, value_of}
 use Rattle.semantics.specs.Rules.{Datum, Access, Location, Event, stored, State, noted, touchable, place_at, value_at, with_datum, assign_step, assign}

@@ -1,7 +1,7 @@
 -- One command over the memory: its place, its value, and the store.
-use Rattle.std.specs.Prelude.{ℕ, ◌≡◌, List, [], ◌∷◌, length, set}
+use Rattle.std.specs.Prelude.{ℕ, ◌≡◌, List, [], ◌∷◌, length, set, if◌then◌else◌}
 use Rattle.words.specs.Columns.{column}
-use Rattle.semantics.specs.Words.{Words, word, if◌then◌else◌}
+use Rattle.semantics.specs.Words.{Words, word}
 use Rattle.semantics.specs.Table.{edition, is_pointer, node_type}
 use Rattle.semantics.specs.Syntax.{moves_bounds, place_of, value_of}
 use Rattle.semantics.specs.Rules.{Event, assign}

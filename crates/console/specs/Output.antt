@@ -1,7 +1,6 @@
 -- Document 01, "The bench program": what is printed for a text, and what is left in the lists that the program lends.
-use Rattle.std.specs.Prelude.{ℕ, zero, suc, ◌-◌, ◌≤◌, Bool, true, ◌&&◌, List, [], ◌∷◌, ◌++◌, ◌≡◌, leb, length, take, drop, get_or, replicate}
+use Rattle.std.specs.Prelude.{ℕ, zero, suc, ◌-◌, ◌≤◌, Bool, true, ◌&&◌, List, [], ◌∷◌, ◌++◌, ◌≡◌, leb, length, take, drop, get_or, replicate, if◌then◌else◌}
 use Rattle.text.specs.Numbers as contents
-use Rattle.text.specs.Numbers.{if◌then◌else◌}
 use Rattle.text.specs.Scan.{Held, held, end_number, Scanned}
 use Rattle.text.specs.declared.Scanner.{Scanner}
 use Rattle.semantics.specs.Words.{Words}

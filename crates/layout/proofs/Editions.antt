@@ -1,4 +1,5 @@
 -- Laws of a table's edition.
+use Rattle.std.specs.Prelude.{if◌then◌else◌}
 use Prim.Native.Nat.{ℕ, ◌≤◌}
 use mathlib.Core.Bool.{Bool, true, false, not, false≢true}
 use mathlib.Core.Path.{◌≡◌, refl, sym, ◌∙◌}
@@ -7,7 +8,7 @@ use native.Mathlib.Omega.{arith}
 use borrow.Author.Tests.{le-leb, lt-leb, eq-eqb, ne_eqb}
 use lib.Dec.{eqb}
 use lib.ListN.{length}
-use Rattle.semantics.specs.Words.{Words, word, if◌then◌else◌}
+use Rattle.semantics.specs.Words.{Words, word}
 use Rattle.semantics.specs.Table.{Edition, edition_1, edition_2, edition, mark_words}
 use Rattle.semantics.specs.Check.{Verdict, passes, refused, require, edition_fault}
 use Rattle.layout.specs.Layout.{edition_by, start_by}

@@ -1,4 +1,5 @@
 -- What the note of a node says, where the node's type is below the lowest bit.
+use Rattle.std.specs.Prelude.{if◌then◌else◌}
 use Prim.Native.Nat.{ℕ, ◌+◌, ◌*◌, ◌/◌, ◌%◌, ◌<◌, ◌≤◌}
 use mathlib.Core.Bool.{Bool, true, false}
 use mathlib.Core.Path.{◌≡◌, refl, sym, ◌∙◌, ap}
@@ -7,7 +8,7 @@ use native.Mathlib.Omega.{arith}
 use native.Mathlib.Decide.{dec_lt}
 use borrow.Author.Tests.{eqb-true, le-leb}
 use lib.Dec.{leb, eqb}
-use Rattle.semantics.specs.Words.{Words, if◌then◌else◌}
+use Rattle.semantics.specs.Words.{Words}
 use Rattle.semantics.specs.Table.{Edition, edition_1, edition_2, nodes, item, is_pointer, Kind, variable, deref, field, constant, sum, read, address, cast, size, malloc, copy, unknown, place, value, neither, sort_of, node_kind, node_a, node_type}
 use Rattle.semantics.specs.Syntax.{moves_bounds}
 use Rattle.layout.specs.Notes.{as_of, bits, note}

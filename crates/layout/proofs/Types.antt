@@ -1,4 +1,5 @@
 -- Laws of the checks of sections 1 to 4, in the order of their functions.
+use Rattle.std.specs.Prelude.{if◌then◌else◌}
 use Prim.Native.Nat.{ℕ, zero, suc, ◌+◌, ◌*◌, ◌-◌, ◌≤◌, ◌<◌}
 use mathlib.Core.Bool.{Bool, true, false, not, ◌&&◌, ◌||◌}
 use mathlib.Core.Path.{◌≡◌, refl, sym, ◌∙◌, ap}
@@ -10,7 +11,7 @@ use borrow.Author.Tests.{le-ltb, lt-ltb, le-leb, lt-leb, ltb-true, ltb-false, le
 use lib.Dec.{leb, ltb, eqb}
 use lib.ListN.{length, set, replicate}
 use lib.Seq.{get_or-set_same, get_or-set_other}
-use Rattle.semantics.specs.Words.{Words, word, if◌then◌else◌, seen_before, least_below}
+use Rattle.semantics.specs.Words.{Words, word, seen_before, least_below}
 use Rattle.semantics.specs.Table.{records, fields, pointers, variables, count_place, count, item, known_type, known_target, entry_type, entry_below, field_total, first_field}
 use Rattle.semantics.specs.Check.{Verdict, passes, refused, ◌or_else◌, require, each, record_fault, field_sum_fault, field_fault, pointer_fault, variable_fault}
 use Rattle.semantics.proofs.Tests.{and_true, or_true}

@@ -1,6 +1,6 @@
 -- What the check notes of a node for those who come after it: its type, and in bits above the type what is known of it.
-use Rattle.std.specs.Prelude.{ℕ, ◌+◌, eqb}
-use Rattle.semantics.specs.Words.{Words, if◌then◌else◌}
+use Rattle.std.specs.Prelude.{ℕ, ◌+◌, eqb, if◌then◌else◌}
+use Rattle.semantics.specs.Words.{Words}
 use Rattle.semantics.specs.Table.{Edition, edition_1, edition_2, nodes, item, Kind, variable, deref, field, constant, sum, read, address, cast, size, malloc, copy, unknown, node_kind, node_a, node_type}
 
 -- Types are below the lowest bit: base and end go with the value whatever the type.

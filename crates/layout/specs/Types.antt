@@ -1,6 +1,6 @@
 -- The check of sections 1 to 4 and what it notes for the check of nodes.
-use Rattle.std.specs.Prelude.{ℕ, zero, suc, ◌+◌, ◌-◌, ◌≤◌, ◌<◌, true, ◌≡◌, ltb, length, set, replicate}
-use Rattle.semantics.specs.Words.{Words, word, if◌then◌else◌}
+use Rattle.std.specs.Prelude.{ℕ, zero, suc, ◌+◌, ◌-◌, ◌≤◌, ◌<◌, true, ◌≡◌, ltb, length, set, replicate, if◌then◌else◌}
+use Rattle.semantics.specs.Words.{Words, word}
 use Rattle.semantics.specs.Table.{records, fields, pointers, variables, count, item, record_target, known_target, entry_type, entry_below, field_total, first_field}
 use Rattle.layout.specs.Layout.{verdict_of}
 use Rattle.layout.specs.Lists.{filled, by_verdict, passed_below}

@@ -1,4 +1,5 @@
 -- Laws of what the evaluator looks up in a table's lists: nodes, targets, fields, sizes and offsets.
+use Rattle.std.specs.Prelude.{if◌then◌else◌}
 use Prim.Native.Nat.{ℕ, ◌+◌, ◌*◌, ◌-◌, ◌/◌, ◌%◌, ◌≤◌, ◌<◌}
 use mathlib.Core.Bool.{Bool, true, false, not, ◌&&◌}
 use mathlib.Core.Path.{◌≡◌, refl, sym, ap, ◌∙◌}
@@ -9,7 +10,7 @@ use native.Mathlib.Decide.{dec_lt}
 use borrow.Author.Tests.{lt-leb, le-leb, lt-ltb, le-ltb, ltb-true, leb-true, eqb-true}
 use lib.Dec.{leb, ltb, eqb}
 use lib.ListN.{length}
-use Rattle.semantics.specs.Words.{Words, word, if◌then◌else◌}
+use Rattle.semantics.specs.Words.{Words, word}
 use Rattle.semantics.specs.Table.{Edition, edition_1, edition_2, edition, records, fields, pointers, nodes, count, item, is_pointer, known_type, known_target, target, points_to_record, pointed_record, field_total, first_field, field_offset, field_count, size_of, variable, field, constant, read, place, value, sort_of, node_kind, node_a, node_b, node_type}
 use Rattle.semantics.specs.Syntax.{step_of, moves_bounds}
 use Rattle.semantics.specs.Check.{is_child}

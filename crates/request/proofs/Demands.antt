@@ -1,4 +1,5 @@
 -- What a list of numbers asks for, by its first two numbers and its length; and what the scanner's list says of the text.
+use Rattle.std.specs.Prelude.{if◌then◌else◌}
 use Prim.Native.Nat.{ℕ, zero, suc, ◌+◌, ◌-◌, ◌≤◌, ◌<◌}
 use mathlib.Core.Bool.{Bool, true, false, ◌&&◌, false≢true}
 use mathlib.Core.List.{List, [], ◌∷◌}
@@ -8,7 +9,7 @@ use borrow.Author.Tests.{le-leb, lt-leb, leb-true, leb-false, eq-eqb, ne_eqb, eq
 use lib.Dec.{leb, eqb}
 use lib.ListN.{length, take, drop, get_or, length-drop}
 use lib.Seq.{length-take-le, get_or-take, drop-drop, take-nil, take-take}
-use Rattle.text.specs.Numbers.{if◌then◌else◌, Contents, holds, malformed, numbers}
+use Rattle.text.specs.Numbers.{Contents, holds, malformed, numbers}
 use Rattle.text.specs.Scan.{within, Finished}
 use Rattle.text.specs.declared.Scanner.{Scanner}
 use Rattle.request.specs.declared.Request.TheVariants.{Run, Malformed}

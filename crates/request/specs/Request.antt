@@ -1,6 +1,6 @@
 -- What a text asks of the bench program.
-use Rattle.std.specs.Prelude.{ℕ, ◌+◌, ◌-◌, ◌≤◌, ◌&&◌, List, [], ◌∷◌, ◌≡◌, leb, eqb, length, take, drop}
-use Rattle.text.specs.Numbers.{if◌then◌else◌, Contents, holds, malformed, numbers}
+use Rattle.std.specs.Prelude.{ℕ, ◌+◌, ◌-◌, ◌≤◌, ◌&&◌, List, [], ◌∷◌, ◌≡◌, leb, eqb, length, take, drop, if◌then◌else◌}
+use Rattle.text.specs.Numbers.{Contents, holds, malformed, numbers}
 use Rattle.text.specs.Scan.{Finished}
 use Rattle.text.specs.declared.Scanner.{Scanner}
 use Rattle.request.specs.declared.Request.{Request}

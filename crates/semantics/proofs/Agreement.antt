@@ -1,5 +1,6 @@
 -- Request 9: the fenced run and the bare run have the same result. A step of the bare run does to the values and to U what the step of the fenced run
 -- does, unless a check fails there. So the bare run follows the fenced one, step by step: through a tree, a command, all commands, a call.
+use Rattle.std.specs.Prelude.{if◌then◌else◌}
 use Prim.Native.Nat.{ℕ, zero, suc, ◌+◌, ◌≤◌, ◌<◌}
 use mathlib.Core.Bool.{Bool, true, false}
 use mathlib.Core.Path.{◌≡◌, refl, ap, ◌∙◌}
@@ -7,7 +8,7 @@ use native.Mathlib.Omega.{arith}
 use borrow.Author.Tests.{lt-ltb}
 use lib.Dec.{leb, ltb, eqb}
 use lib.ListN.{length, set}
-use Rattle.semantics.specs.Words.{Words, word, if◌then◌else◌}
+use Rattle.semantics.specs.Words.{Words, word}
 use Rattle.semantics.specs.Table.{variables, commands, count}
 use Rattle.semantics.specs.Registers.{register_count, register_variable, register_length, register_words}
 use Rattle.semantics.specs.Check.{Verdict, passes, refused, call_fault}

@@ -1,12 +1,13 @@
 -- Request 5: "No outcome of any run changes." The test of a check as it was, which passes where the new one does for every number of words above 0;
 -- the rules with that test; and that a run by them is the run by the rules as they are.
+use Rattle.std.specs.Prelude.{if◌then◌else◌}
 use Prim.Native.Nat.{ℕ, zero, suc, ◌+◌, ◌≤◌, ◌<◌}
 use mathlib.Core.Bool.{Bool, true, false, ◌&&◌}
 use mathlib.Core.Path.{◌≡◌, refl, sym, ap, ◌∙◌}
 use native.Mathlib.Omega.{arith}
 use borrow.Author.Tests.{leb-true, le-leb}
 use lib.Dec.{leb}
-use Rattle.semantics.specs.Words.{Words, if◌then◌else◌}
+use Rattle.semantics.specs.Words.{Words}
 use Rattle.semantics.specs.Table.{edition, commands, count, node_type}
 use Rattle.semantics.specs.Check.{command_place, command_value}
 use Rattle.semantics.specs.Syntax.{Place, Variable, Deref, Field, NoPlace, Value, Number, Sum, Read, Address, Cast, Malloc, Copy, NoValue, moves_bounds, place_of, value_of}

@@ -1,11 +1,11 @@
 -- What the cause of an abort says of its check.
+use Rattle.std.specs.Prelude.{if◌then◌else◌}
 use Prim.Native.Nat.{ℕ}
 use mathlib.Core.Bool.{Bool, true, false}
 use mathlib.Core.Path.{◌≡◌, refl, sym}
 use mathlib.Core.List.{List, [], ◌∷◌}
 use native.Mathlib.Omega.{arith}
 use lib.Dec.{ltb}
-use Rattle.semantics.specs.Words.{if◌then◌else◌}
 use Rattle.semantics.specs.Rules.{BoundsCheck, Event, loaded, stored, allocated, tested}
 use Rattle.semantics.specs.Run.{Ending, done, abort, out_of_memory, stuck}
 use Rattle.semantics.specs.Explain.{without_bounds, reason_of, Cause, not_aborted, because, cause_of, newest_cause, explanation}

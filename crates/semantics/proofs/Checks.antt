@@ -1,5 +1,6 @@
 -- Every check that a step adds to the log and that asks for a word is passed, but for one by which it fails: that one is the newest event. No
 -- invariant is needed.
+use Rattle.std.specs.Prelude.{if◌then◌else◌}
 use Prim.Native.Nat.{ℕ, zero, suc, ◌+◌, ◌<◌}
 use mathlib.Core.Bool.{Bool, true, false}
 use mathlib.Core.Path.{◌≡◌, refl}
@@ -8,7 +9,7 @@ use mathlib.Core.List.{List, ◌∷◌}
 use native.Mathlib.Omega.{arith}
 use lib.Dec.{leb, eqb}
 use lib.ListN.{length}
-use Rattle.semantics.specs.Words.{Words, all_below, if◌then◌else◌}
+use Rattle.semantics.specs.Words.{Words, all_below}
 use Rattle.semantics.specs.Registers.{register_count, register_variable, register_length, register_words}
 use Rattle.semantics.specs.Table.{edition, node_type}
 use Rattle.semantics.specs.Check.{command_place, command_value}

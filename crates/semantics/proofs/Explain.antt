@@ -1,5 +1,6 @@
 -- Explanations are true: of a run that aborts, the check told is the first that is not passed, the reason is the lowest that applies, and the first
 -- word is that of the one variable or block in which the bounds lie.
+use Rattle.std.specs.Prelude.{if◌then◌else◌}
 use Prim.Native.Nat.{ℕ, ◌+◌, ◌≤◌, ◌<◌}
 use mathlib.Core.Bool.{Bool, true, false}
 use mathlib.Core.Path.{◌≡◌, refl, sym, ap, ◌∙◌}
@@ -8,7 +9,7 @@ use native.Mathlib.Omega.{arith}
 use borrow.Author.Tests.{ltb-true, ltb-false, leb-true, leb-false, le-leb, lt-leb, eqb-true, eq-eqb, ne_eqb}
 use lib.Dec.{leb, ltb, eqb}
 use lib.ListN.{length}
-use Rattle.semantics.specs.Words.{Words, if◌then◌else◌}
+use Rattle.semantics.specs.Words.{Words}
 use Rattle.semantics.specs.Table.{variables, commands, count}
 use Rattle.semantics.specs.Registers.{register_count, register_length, register_start}
 use Rattle.semantics.specs.Check.{passes, call_fault}

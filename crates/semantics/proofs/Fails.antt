@@ -1,4 +1,5 @@
 -- By which check a tree or a command fails: one of its own that is not passed, or that of the child that failed.
+use Rattle.std.specs.Prelude.{if◌then◌else◌}
 use Prim.Native.Nat.{ℕ, ◌+◌}
 use mathlib.Core.Bool.{Bool, true, false}
 use mathlib.Core.Path.{◌≡◌, refl}
@@ -6,7 +7,7 @@ use native.Mathlib.Omega.{arith}
 use native.Mathlib.Nat.{add-zero}
 use lib.Dec.{leb, eqb}
 use lib.ListN.{length}
-use Rattle.semantics.specs.Words.{all_below, if◌then◌else◌}
+use Rattle.semantics.specs.Words.{all_below}
 use Rattle.semantics.specs.Syntax.{Place, Variable, Deref, Field, NoPlace, Value, Number, Sum, Read, Address, Cast, Malloc, Copy, NoValue}
 use Rattle.semantics.specs.Rules.{Datum, unbounded, block_pointer, Location, BoundsCheck, tested, State, noted, Outcome, ok, fails, no_room, no_rule, bind, check_of, checked, pointed_step, deref_step, field_step, touchable, read_step, sum_step, cast_step, with_block, malloc_step, move_step, copy_step, place_at, value_at, assign_step, assign}
 use Rattle.semantics.specs.Log.{Operands, Misses, PlaceFails, deref_check, deref_child, field_check, field_child, ValueFails, sum_left, sum_right, read_place, address_place, cast_child, malloc_child, copy_left, copy_right, copy_to, copy_from, AssignFails, in_place, in_value}

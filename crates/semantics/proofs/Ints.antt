@@ -1,5 +1,6 @@
 -- In edition 1 an int value has no bounds. So a cast of one changes nothing; and a sum, whose right operand is an int, has the bounds that it would have
 -- in edition 2.
+use Rattle.std.specs.Prelude.{if◌then◌else◌}
 use Prim.Native.Nat.{ℕ, zero, suc, ◌+◌, ◌*◌, ◌%◌, ◌≤◌, ◌<◌}
 use mathlib.Core.Bool.{Bool, true, false, ◌&&◌, false≢true}
 use mathlib.Core.Path.{◌≡◌, refl, sym, ap, ◌∙◌}
@@ -9,7 +10,7 @@ use native.Mathlib.Decide.{ℕ_discrete}
 use borrow.Author.Tests.{eqb-true}
 use lib.Dec.{eqb}
 use lib.ListN.{get_or}
-use Rattle.semantics.specs.Words.{Words, word, all_below, if◌then◌else◌}
+use Rattle.semantics.specs.Words.{Words, word, all_below}
 use Rattle.semantics.specs.Table.{edition_1, edition_2, Edition, edition, nodes, count, is_pointer, Kind, variable, deref, field, constant, sum, read, address, cast, size, malloc, copy, unknown, value, sort_of, node_kind, node_a, node_b, type_by_kind, type_rule, types_below, node_type}
 use Rattle.semantics.specs.Check.{same_sort, is_child}
 use Rattle.semantics.specs.Syntax.{Place, Value, Number, Sum, Read, Cast, Copy, senseless, as_value, either_bounds, tree_by_kind, tree_rule, trees_below, tree_of, value_of}

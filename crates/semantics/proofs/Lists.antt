@@ -1,4 +1,5 @@
 -- Laws of the definitions of specs/Words.antt.
+use Rattle.std.specs.Prelude.{if◌then◌else◌}
 use Prim.Native.Nat.{ℕ, zero, suc, ◌+◌, ◌*◌, ◌≤◌, ◌<◌}
 use mathlib.Core.Bool.{Bool, true, false, ◌||◌, false≢true}
 use mathlib.Core.Path.{◌≡◌, refl, sym, ap, ◌∙◌}
@@ -11,7 +12,7 @@ use borrow.Author.Tests.{ltb-true, lt-ltb, le-ltb}
 use lib.Dec.{ltb}
 use lib.ListN.{length, get_or, replicate, set, length-set, length-append, length-replicate, get_or-append}
 use lib.Seq.{get_or_at, get_or-set_same, get_or-set_other, set-get_or, sets, length-sets}
-use Rattle.semantics.specs.Words.{Words, word, zeroed, words_from, moved, if◌then◌else◌, sum_below, any_below, all_below, least_below, grow}
+use Rattle.semantics.specs.Words.{Words, word, zeroed, words_from, moved, sum_below, any_below, all_below, least_below, grow}
 
 module _ {A : Type 0} (f : ℕ → List A → A) where
   pub length_grow : (n : ℕ) → length (grow f n) ≡ n

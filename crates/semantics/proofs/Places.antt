@@ -1,4 +1,5 @@
 -- How each tree comes by its place or its value, and the events that a read, a malloc, a copy and an assign have.
+use Rattle.std.specs.Prelude.{if◌then◌else◌}
 use Prim.Native.Nat.{ℕ, ◌+◌, ◌≤◌, ◌<◌}
 use mathlib.Core.Bool.{Bool, true, false}
 use mathlib.Core.Path.{◌≡◌, refl, sym, ap, ◌∙◌}
@@ -8,7 +9,7 @@ use native.Mathlib.Omega.{arith}
 use borrow.Author.Tests.{eqb-true, eqb-false}
 use lib.Dec.{leb, eqb}
 use lib.ListN.{length}
-use Rattle.semantics.specs.Words.{Words, moved, all_below, if◌then◌else◌}
+use Rattle.semantics.specs.Words.{Words, moved, all_below}
 use Rattle.semantics.specs.Syntax.{Place, Variable, Deref, Field, NoPlace, Value, Number, Sum, Read, Address, Cast, Malloc, Copy, NoValue}
 use Rattle.semantics.specs.Rules.{Datum, unbounded, block_pointer, Location, BoundsCheck, Event, stored, tested, State, noted, Outcome, ok, fails, no_room, no_rule, bind, check_of, checked, pointed_step, deref_step, field_step, touchable, contents, read_step, cast_step, with_block, malloc_step, move_step, copy_step, place_at, value_at, with_datum, assign_step, assign}
 use Rattle.semantics.specs.Log.{Noted, Passes, ComesBy, variable_place, deref_place, field_place, WordRead, bounds_read, value_read, Allocates, no_words, new_block, Moves, Copies, Gives, number_value, sum_value, read_value, address_value, cast_value, malloc_value, copy_value, WordStored, bounds_stored, value_stored, Assigns, ClearWord, SameWord}

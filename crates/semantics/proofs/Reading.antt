@@ -1,5 +1,6 @@
 -- Words that the log does not have as read do not sway a run. Two runs begin in states that are alike in every word read: step by step both
 -- have the same outcome, the same log, and the same in every word in which they began alike.
+use Rattle.std.specs.Prelude.{if◌then◌else◌}
 use Prim.Native.Nat.{ℕ, zero, suc, ◌+◌, ◌≤◌, ◌<◌}
 use mathlib.Core.Bool.{Bool, true, false, ◌&&◌}
 use mathlib.Core.Path.{◌≡◌, refl, sym, ap, ap₂, ◌∙◌}
@@ -12,7 +13,7 @@ use native.Mathlib.Nat.{add-zero}
 use lib.Dec.{leb, eqb}
 use lib.ListN.{length, replicate, set, length-set}
 use lib.Seq.{sets, get_or-set_other}
-use Rattle.semantics.specs.Words.{Words, word, zeroed, words_from, moved, all_below, if◌then◌else◌}
+use Rattle.semantics.specs.Words.{Words, word, zeroed, words_from, moved, all_below}
 use Rattle.semantics.specs.Registers.{register_count, register_variable, register_length, register_words}
 use Rattle.semantics.specs.Check.{command_place, command_value}
 use Rattle.semantics.specs.Syntax.{Place, Variable, Deref, Field, NoPlace, Value, Number, Sum, Read, Address, Cast, Malloc, Copy, NoValue, place_of, value_of}

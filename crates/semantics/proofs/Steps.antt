@@ -1,4 +1,5 @@
 -- Each step keeps the invariant, and no step of a tree that makes sense is without a rule.
+use Rattle.std.specs.Prelude.{if◌then◌else◌}
 use Prim.Native.Nat.{ℕ, ◌+◌, ◌-◌, ◌≤◌, ◌<◌}
 use mathlib.Core.Bool.{Bool, true, false}
 use mathlib.Core.Path.{◌≡◌, refl, sym, ap, ◌∙◌}
@@ -11,7 +12,7 @@ use borrow.Author.Tests.{lt-ltb, leb-true, eqb-false}
 use lib.Dec.{leb, eqb, ltb}
 use lib.ListN.{length, set, length-set}
 use lib.Seq.{get_or-set_same, get_or-set_other}
-use Rattle.semantics.specs.Words.{Words, word, moved, if◌then◌else◌}
+use Rattle.semantics.specs.Words.{Words, word, moved}
 use Rattle.semantics.specs.Syntax.{Place, Variable, Deref, Field, Value, Number, Sum, Read, Address, Cast, Malloc, Copy}
 use Rattle.semantics.specs.Rules.{Datum, unbounded, block_pointer, Access, Location, Event, loaded, stored, allocated, tested, State, noted, with_values, Outcome, ok, no_room, check_of, words_left, checked, pointed, pointed_step, deref_step, field_step, touchable, contents, read_step, takes_right, bounds_from, cast_step, with_block, malloc_step, with_copy, move_step, copy_step, place_at, value_at, with_datum, assign_step, assign}
 use Rattle.semantics.specs.Safety.{variable, block, Held, Permitted, by_name, by_pointer, Allowed, Sound, absent, held}

@@ -1,9 +1,9 @@
 -- Request 9, the bare run: "the same steps without checks and without the two bounds lists". It goes over the same trees. Its definitions stand in
 -- the order of those in specs/Rules.antt and specs/Run.antt, each under the name of the one that it takes the place of; what bounds alone need is
 -- left out. A place and a value are a word's number and its value. "Its sums are all modulo 4,294,967,296, except U + n, which stays exact."
-use Rattle.std.specs.Prelude.{ℕ, zero, suc, ◌+◌, ◌*◌, ◌%◌, Bool, ◌&&◌, length, replicate, set, leb, ltb, eqb}
+use Rattle.std.specs.Prelude.{ℕ, zero, suc, ◌+◌, ◌*◌, ◌%◌, Bool, ◌&&◌, length, replicate, set, leb, ltb, eqb, if◌then◌else◌}
 use Rattle.std.proofs.lemmas.List.Edits.{sets}
-use Rattle.semantics.specs.Words.{Words, word, zeroed, moved, all_below, if◌then◌else◌}
+use Rattle.semantics.specs.Words.{Words, word, zeroed, moved, all_below}
 use Rattle.semantics.specs.Table.{variables, commands, count}
 use Rattle.semantics.specs.Registers.{register_count, register_variable, register_length, register_words}
 use Rattle.semantics.specs.Check.{Verdict, passes, refused, command_place, command_value}

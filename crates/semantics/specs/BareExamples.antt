@@ -1,8 +1,8 @@
 -- Request 9, "Same result on the old boxes": what a bare call gives for the arguments of fenced calls, most of which stand in other files with what the
 -- fenced call gives. Each would come out otherwise if the request were read otherwise by one word. proofs/Examples.antt computes each list. Runs of the
 -- bare run alone stand in specs/BareRunExamples.antt, its steps by themselves in specs/BareStepExamples.antt.
-use Rattle.std.specs.Prelude.{ℕ, ◌-◌, ◌&&◌, List, [], ◌∷◌, ◌++◌, map, eqb, length, replicate, take, drop}
-use Rattle.semantics.specs.Words.{Words, if◌then◌else◌}
+use Rattle.std.specs.Prelude.{ℕ, ◌-◌, ◌&&◌, List, [], ◌∷◌, ◌++◌, map, eqb, length, replicate, take, drop, if◌then◌else◌}
+use Rattle.semantics.specs.Words.{Words}
 use Rattle.semantics.specs.Check.{Verdict, passes}
 use Rattle.semantics.specs.Run as fenced
 use Rattle.semantics.specs.Bare.{done, out_of_memory, stuck, Answer, refusal, ending, Result, call_fault, call}

@@ -1,7 +1,7 @@
 -- Document 01, "What is turned away", with what requests 1, 6 and 8 add to it and without 12, which request 7 takes off: the refusals by number and
 -- place, in their order.
-use Rattle.std.specs.Prelude.{ℕ, zero, suc, ◌+◌, Bool, true, false, not, ◌&&◌, ◌||◌, [], ◌∷◌, length, leb, ltb, eqb}
-use Rattle.semantics.specs.Words.{Words, word, sum_below, seen_before, if◌then◌else◌}
+use Rattle.std.specs.Prelude.{ℕ, zero, suc, ◌+◌, Bool, true, false, not, ◌&&◌, ◌||◌, [], ◌∷◌, length, leb, ltb, eqb, if◌then◌else◌}
+use Rattle.semantics.specs.Words.{Words, word, sum_below, seen_before}
 use Rattle.semantics.specs.Table.{Edition, edition_1, edition_2, edition, records, fields, pointers, variables, nodes, commands, limits, count_place, count, item_place, item, int, is_pointer, known_type, known_target, points_to_type, points_to_record, pointed_record, entry_below, field_total, first_field, Kind, variable, deref, field, constant, sum, read, address, cast, size, malloc, copy, unknown, Sort, place, value, neither, sort_of, Operand, unused, variable_number, field_number, any_word, type_word, target_word, place_child, value_child, operand_a, operand_b, node_kind, node_a, node_b, children, node_type}
 use Rattle.semantics.specs.Registers.{register_count, register_place, register_variable, register_start}
 

@@ -1,8 +1,8 @@
 -- Request 4, "A reason for every abort": a tool that "takes what the run takes, leaves what it leaves and, for a run that aborts, tells the node,
 -- the place wanted, the number of words wanted, the base and end, and one reason". Then, what is claimed of it.
-use Rattle.std.specs.Prelude.{ℕ, ◌+◌, ◌≤◌, ◌<◌, Bool, ◌&&◌, ◌≡◌, leb, ltb, eqb, length}
+use Rattle.std.specs.Prelude.{ℕ, ◌+◌, ◌≤◌, ◌<◌, Bool, ◌&&◌, ◌≡◌, leb, ltb, eqb, length, if◌then◌else◌}
 use mathlib.Core.List.{List, [], ◌∷◌, Memᴰ}
-use Rattle.semantics.specs.Words.{Words, if◌then◌else◌}
+use Rattle.semantics.specs.Words.{Words}
 use Rattle.semantics.specs.Table.{variables, count}
 use Rattle.semantics.specs.Check.{Verdict, passes, refused, call_fault}
 use Rattle.semantics.specs.Rules.{BoundsCheck, Event, loaded, stored, allocated, tested, State, fails}

@@ -1,8 +1,8 @@
 -- Request 8, "Edition 2 of the cast rule": tables with the mark before them. What the check and a call answer, and the runs that have no int with
 -- bounds. Each would come out otherwise if the request were read otherwise by one word. proofs/Examples.antt computes each list. What edition 2 has of
 -- its own stands in specs/EditionExamples.antt.
-use Rattle.std.specs.Prelude.{ℕ, ◌+◌, List, [], ◌∷◌, ◌++◌, map, leb, replicate, set}
-use Rattle.semantics.specs.Words.{Words, if◌then◌else◌}
+use Rattle.std.specs.Prelude.{ℕ, ◌+◌, List, [], ◌∷◌, ◌++◌, map, leb, replicate, set, if◌then◌else◌}
+use Rattle.semantics.specs.Words.{Words}
 use Rattle.semantics.specs.Check.{Verdict, passes, refused}
 use Rattle.semantics.specs.Rules.{unbounded}
 use Rattle.semantics.specs.Run.{abort, Answer, refusal, ending}

@@ -1,6 +1,6 @@
 -- Document 01, "Steps", request 6's copy and request 8's edition 2, over trees. All sums are exact but for that of a Sum.
-use Rattle.std.specs.Prelude.{ℕ, zero, suc, ◌+◌, ◌*◌, ◌-◌, ◌%◌, Bool, true, false, ◌&&◌, List, ◌∷◌, length, set, leb, ltb, eqb}
-use Rattle.semantics.specs.Words.{Words, word, zeroed, moved, all_below, if◌then◌else◌}
+use Rattle.std.specs.Prelude.{ℕ, zero, suc, ◌+◌, ◌*◌, ◌-◌, ◌%◌, Bool, true, false, ◌&&◌, List, ◌∷◌, length, set, leb, ltb, eqb, if◌then◌else◌}
+use Rattle.semantics.specs.Words.{Words, word, zeroed, moved, all_below}
 use Rattle.semantics.specs.Syntax.{Place, Variable, Deref, Field, NoPlace, Value, Number, Sum, Read, Address, Cast, Malloc, Copy, NoValue}
 
 -- A value with its bounds [base, end). "A word with base 0 and end 0 has no bounds."

@@ -1,7 +1,7 @@
 -- Places and values as trees (source document 004, figure 1), and elaboration: the tree of each node of a table.
 -- What is known before the run is settled here: sizes, offsets and counts of fields, and what the edition and the types say of bounds.
-use Rattle.std.specs.Prelude.{ℕ, Bool, true, false, ◌&&◌, List, get_or}
-use Rattle.semantics.specs.Words.{Words, if◌then◌else◌, grow}
+use Rattle.std.specs.Prelude.{ℕ, Bool, true, false, ◌&&◌, List, get_or, if◌then◌else◌}
+use Rattle.semantics.specs.Words.{Words, grow}
 use Rattle.semantics.specs.Table.{Edition, edition_1, edition_2, edition, is_pointer, target, points_to_record, pointed_record, field_offset, field_count, size_of, Kind, variable, deref, field, constant, sum, read, address, cast, size, malloc, copy, unknown, node_kind, node_a, node_b, node_type}
 
 -- Each constructor begins with its node's number.

@@ -1,7 +1,7 @@
 -- Document 01, "The table": editions, sections, types, sizes, and what a node's kind says of its two other words.
 -- All of this is total: where a table is cut short or makes no sense, a word past its end counts as 0, and the check refuses it.
-use Rattle.std.specs.Prelude.{ℕ, zero, suc, ◌+◌, ◌*◌, ◌-◌, Bool, ◌&&◌, ◌||◌, List, [], ◌∷◌, ◌++◌, leb, ltb, eqb, get_or}
-use Rattle.semantics.specs.Words.{Words, word, if◌then◌else◌, sum_below, least_below, grow}
+use Rattle.std.specs.Prelude.{ℕ, zero, suc, ◌+◌, ◌*◌, ◌-◌, Bool, ◌&&◌, ◌||◌, List, [], ◌∷◌, ◌++◌, leb, ltb, eqb, get_or, if◌then◌else◌}
+use Rattle.semantics.specs.Words.{Words, word, sum_below, least_below, grow}
 
 -- Request 8: "An edition 2 table starts with the word 4,294,967,295 and the word 2; the sections follow." The word 2 is asked for by the check.
 pub data Edition : Type 0 where

@@ -1,5 +1,5 @@
 -- Lists of words, and the ways in which the definitions go over numbers: a sum, any, all, the least, a list that grows.
-use Rattle.std.specs.Prelude.{ℕ, zero, suc, ◌+◌, Bool, true, false, ◌&&◌, ◌||◌, List, [], ◌∷◌, ◌++◌, get_or, replicate, ltb, eqb}
+use Rattle.std.specs.Prelude.{ℕ, zero, suc, ◌+◌, Bool, true, false, ◌&&◌, ◌||◌, List, [], ◌∷◌, ◌++◌, get_or, replicate, ltb, eqb, if◌then◌else◌}
 use Rattle.std.proofs.lemmas.List.Edits.{sets}
 
 -- A table, an input list and each list of the lent memory.
@@ -13,11 +13,6 @@ word l i = get_or l i 0
 -- A list with 0 in the n words from `from` on.
 unfoldable pub zeroed : Words → ℕ → ℕ → Words
 zeroed l from n = sets l from (replicate n 0)
-
-infixr 20 if◌then◌else◌
-abbrev pub if◌then◌else◌ : {A : Type 0} → Bool → A → A → A
-if true then a else b = a
-if false then a else b = b
 
 -- The sum of f over the numbers below n.
 unfoldable pub sum_below : ℕ → (ℕ → ℕ) → ℕ

@@ -1,4 +1,5 @@
 -- Laws of items that are put one after the other.
+use Rattle.std.specs.Prelude.{if◌then◌else◌}
 use Prim.Native.Nat.{ℕ, zero, suc, ◌+◌, ◌/◌, ◌%◌, ◌≤◌, ◌<◌}
 use mathlib.Core.Bool.{Bool, true, false}
 use mathlib.Core.List.{List, [], ◌∷◌, ◌++◌, append_assoc, append-nil}
@@ -8,7 +9,6 @@ use borrow.Author.Tests.{le-leb, lt-leb, leb-true, leb-false}
 use lib.Dec.{leb, ltb}
 use lib.ListN.{length, take, drop, length-append, length-drop, take-append-drop}
 use lib.Seq.{length-take-le, take_at, drop-append-add, drop-drop}
-use Rattle.text.specs.Numbers.{if◌then◌else◌}
 use Rattle.text.specs.Decimal.{last_digits, decimal, Puts}
 use Rattle.stream.specs.Items.{Item, word, number, item_bytes, item_room, bytes_of, room_of, Buffer, buffer, put_bytes, put_item, put_items, PutsItems}
 

@@ -1,6 +1,5 @@
 -- Words and numbers that are put into a list of bytes one after the other.
-use Rattle.std.specs.Prelude.{ℕ, ◌+◌, ◌≤◌, List, [], ◌∷◌, ◌++◌, ◌≡◌, leb, length, take, drop}
-use Rattle.text.specs.Numbers.{if◌then◌else◌}
+use Rattle.std.specs.Prelude.{ℕ, ◌+◌, ◌≤◌, List, [], ◌∷◌, ◌++◌, ◌≡◌, leb, length, take, drop, if◌then◌else◌}
 use Rattle.text.specs.Decimal.{decimal}
 
 -- Some bytes, or a number in decimal.

@@ -1,6 +1,5 @@
 -- Parts of the input that a byte ends, and the place where output goes on.
-use Rattle.std.specs.Prelude.{ℕ, suc, ◌+◌, ◌≤◌, ◌<◌, List, [], ◌∷◌, ◌≡◌, leb, ltb, eqb, length, take, drop}
-use Rattle.text.specs.Numbers.{if◌then◌else◌}
+use Rattle.std.specs.Prelude.{ℕ, suc, ◌+◌, ◌≤◌, ◌<◌, List, [], ◌∷◌, ◌≡◌, leb, ltb, eqb, length, take, drop, if◌then◌else◌}
 use Rattle.stream.specs.declared.Part.{Part}
 
 -- How many bytes stand before the first b: all of them where there is none.

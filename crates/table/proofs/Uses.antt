@@ -1,4 +1,5 @@
 -- Laws of counting uses.
+use Rattle.std.specs.Prelude.{if◌then◌else◌}
 use Prim.Native.Nat.{ℕ, zero, suc, ◌+◌, ◌*◌, ◌≤◌}
 use mathlib.Core.Bool.{Bool, true, false}
 use mathlib.Core.Path.{◌≡◌}
@@ -6,7 +7,7 @@ use mathlib.Core.List.{[], ◌∷◌}
 use native.Mathlib.Omega.{arith}
 use lib.Dec.{eqb}
 use lib.ListN.{length}
-use Rattle.semantics.specs.Words.{Words, word, if◌then◌else◌, sum_below}
+use Rattle.semantics.specs.Words.{Words, word, sum_below}
 use Rattle.semantics.specs.Check.{occurrences}
 use Rattle.nodes.specs.Promises.{Counted}
 

@@ -1,4 +1,5 @@
 -- Laws of decimal digits: the loops that write them, and that the digits of a number are read back as that number.
+use Rattle.std.specs.Prelude.{if◌then◌else◌}
 use Prim.Native.Nat.{ℕ, zero, suc, ◌+◌, ◌-◌, ◌/◌, ◌%◌, ◌^◌, ◌≤◌, ◌<◌}
 use mathlib.Core.Bool.{Bool, true, false, ◌&&◌, ◌||◌, false≢true}
 use mathlib.Core.Path.{◌≡◌, refl, sym, ap, ◌∙◌}
@@ -10,7 +11,7 @@ use borrow.Author.Tests.{lt-ltb, le-ltb, ltb-true, leb-true, ne_eqb}
 use lib.Dec.{leb, ltb, eqb}
 use lib.ListN.{length, take, drop, set, get_or, length-set, length-drop, drop_of_length-le}
 use lib.Seq.{drop-cons, drop-set-lt, get_or-set_same, paste, paste-zero, paste-suc, length-paste, take_all}
-use Rattle.text.specs.Numbers.{if◌then◌else◌, limit, holds, separator, digit, digits, value_from, value, number, ◌then◌, numbers_after, numbers}
+use Rattle.text.specs.Numbers.{limit, holds, separator, digit, digits, value_from, value, number, ◌then◌, numbers_after, numbers}
 use Rattle.text.specs.Decimal.{last_digits, decimal, Puts, Written}
 use Rattle.text.proofs.Numbers.{digits_one, value_one, number_good, after_separator, after_other}
 use Rattle.text.proofs.Scanning.{is_digit}

@@ -1,4 +1,5 @@
 -- The scanner's steps keep what it knows of the text, and its end tells what the text holds.
+use Rattle.std.specs.Prelude.{if◌then◌else◌}
 use Prim.Native.Nat.{ℕ, ◌+◌, ◌*◌, ◌-◌, ◌≤◌, ◌<◌}
 use mathlib.Core.Bool.{Bool, true, false, ◌&&◌}
 use mathlib.Core.Path.{◌≡◌, refl, sym, ap, ◌∙◌}
@@ -9,7 +10,7 @@ use borrow.Author.Tests.{lt-ltb, le-ltb, lt-leb, le-leb, ltb-true, ltb-false, eq
 use lib.Dec.{leb, ltb}
 use lib.ListN.{length, take, set, get_or, length-append, length-set}
 use lib.Seq.{take_all, take-suc, length-take-le, take-suc-set}
-use Rattle.text.specs.Numbers.{if◌then◌else◌, limit, Contents, holds, malformed, separator, digit, digits, value_from, value, number, prepend, ◌then◌, numbers_after, numbers}
+use Rattle.text.specs.Numbers.{limit, Contents, holds, malformed, separator, digit, digits, value_from, value, number, prepend, ◌then◌, numbers_after, numbers}
 use Rattle.text.specs.Scan.{within, state_of, Scanned, readable, unreadable, Finished, Finishes, Scans, Held, held, fresh, bad, take_digit, end_number, take_byte, take_bytes}
 use Rattle.text.specs.declared.Scanner.{Scanner}
 use Rattle.text.proofs.Numbers.{then_none, then_holds, then_end, then_malformed, then_then, digits_one, value_one, number_good, Spoilt, spoilt_byte, spoilt_large, after_separator, after_other, after_spoilt}

@@ -1,6 +1,5 @@
 -- Numbers as decimal digits, and bytes put into a list.
-use Rattle.std.specs.Prelude.{ℕ, zero, suc, ◌+◌, ◌/◌, ◌%◌, ◌<◌, ◌≤◌, ◌≡◌, List, [], ◌∷◌, ◌++◌, ltb, length, take, drop}
-use Rattle.text.specs.Numbers.{if◌then◌else◌}
+use Rattle.std.specs.Prelude.{ℕ, zero, suc, ◌+◌, ◌/◌, ◌%◌, ◌<◌, ◌≤◌, ◌≡◌, List, [], ◌∷◌, ◌++◌, ltb, length, take, drop, if◌then◌else◌}
 
 -- At most n digits of x, the last ones, without leading zeros; 0 has one digit.
 unfoldable pub last_digits : ℕ → ℕ → List ℕ

@@ -1,5 +1,5 @@
 -- Which numbers a text holds. A text is a list of bytes.
-use Rattle.std.specs.Prelude.{ℕ, ◌+◌, ◌*◌, ◌-◌, Bool, true, false, ◌&&◌, ◌||◌, List, [], ◌∷◌, ◌++◌, leb, ltb, eqb}
+use Rattle.std.specs.Prelude.{ℕ, ◌+◌, ◌*◌, ◌-◌, Bool, true, false, ◌&&◌, ◌||◌, List, [], ◌∷◌, ◌++◌, leb, ltb, eqb, if◌then◌else◌}
 
 -- The numbers of a text in their order, or that the text is none of numbers.
 pub data Contents : Type 0 where
@@ -9,11 +9,6 @@ pub data Contents : Type 0 where
 -- Numbers are below 4,294,967,296.
 abbrev pub limit : ℕ
 limit = 4294967296
-
-infixr 20 if◌then◌else◌
-abbrev pub if◌then◌else◌ : {A : Type 0} → Bool → A → A → A
-if true then a else b = a
-if false then a else b = b
 
 -- Numbers parted "by spaces (byte 32) or line ends (byte 10)".
 unfoldable pub separator : ℕ → Bool

@@ -1,6 +1,6 @@
 -- The scanner: a text is read in chunks, and each number is stored where it ends.
-use Rattle.std.specs.Prelude.{ℕ, ◌+◌, ◌*◌, ◌-◌, ◌<◌, ◌≤◌, true, ◌&&◌, List, [], ◌∷◌, ◌++◌, ◌≡◌, leb, ltb, eqb, length, take, set}
-use Rattle.text.specs.Numbers.{if◌then◌else◌, limit, Contents, holds, malformed, separator, digit, digits, value, ◌then◌, numbers_after, numbers}
+use Rattle.std.specs.Prelude.{ℕ, ◌+◌, ◌*◌, ◌-◌, ◌<◌, ◌≤◌, true, ◌&&◌, List, [], ◌∷◌, ◌++◌, ◌≡◌, leb, ltb, eqb, length, take, set, if◌then◌else◌}
+use Rattle.text.specs.Numbers.{limit, Contents, holds, malformed, separator, digit, digits, value, ◌then◌, numbers_after, numbers}
 use Rattle.text.specs.declared.Scanner.{Scanner}
 
 -- ---- what a call promises of the text

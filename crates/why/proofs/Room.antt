@@ -1,4 +1,5 @@
 -- The room that the lines take: at most 512 bytes.
+use Rattle.std.specs.Prelude.{if◌then◌else◌}
 use Prim.Native.Nat.{ℕ, ◌+◌, ◌≤◌}
 use Prim.Native.String.{String}
 use mathlib.Core.Bool.{Bool, true, false}
@@ -9,7 +10,7 @@ use Rattle.stream.specs.Items.{item_room, room_of}
 use Rattle.stream.proofs.Items.{room_both}
 use Rattle.lines.specs.Lines.{line_end, ending_line}
 use Rattle.lines.proofs.Lines.{ending_room}
-use Rattle.semantics.specs.Words.{Words, if◌then◌else◌}
+use Rattle.semantics.specs.Words.{Words}
 use Rattle.semantics.specs.Table.{nodes, variables, count, item}
 use Rattle.semantics.specs.Run.{Answer, refusal, ending, done, abort, out_of_memory}
 use Rattle.semantics.specs.Explain.{Cause}

@@ -1,6 +1,6 @@
 -- What begins at a word of memory: "the variable or block in which the bounds lie" by its first word.
-use Rattle.std.specs.Prelude.{ℕ, suc, ◌+◌, ◌-◌, ◌&&◌, leb, ltb}
-use Rattle.semantics.specs.Words.{Words, if◌then◌else◌, least_below}
+use Rattle.std.specs.Prelude.{ℕ, suc, ◌+◌, ◌-◌, ◌&&◌, leb, ltb, if◌then◌else◌}
+use Rattle.semantics.specs.Words.{Words, least_below}
 use Rattle.semantics.specs.Registers.{register_count, register_variable, register_start}
 use Rattle.why.specs.declared.Owner.{Owner}
 use Rattle.why.specs.declared.Owner.TheVariants.{Variable, Register, Block}

@@ -1,7 +1,7 @@
 -- What is printed for a person: how a call ended, and after a run why it aborted or that it did not.
-use Rattle.std.specs.Prelude.{ℕ, Bool, List, [], ◌∷◌, ◌++◌, ◌≡◌, eqb, length, drop}
+use Rattle.std.specs.Prelude.{ℕ, Bool, List, [], ◌∷◌, ◌++◌, ◌≡◌, eqb, length, drop, if◌then◌else◌}
 use Prim.Native.String.{String}
-use Rattle.semantics.specs.Words.{Words, if◌then◌else◌}
+use Rattle.semantics.specs.Words.{Words}
 use Rattle.semantics.specs.Table.{nodes, variables, count, item}
 use Rattle.semantics.specs.Run.{Answer, refusal, ending, done, abort, out_of_memory}
 use Rattle.semantics.specs.Explain.{Cause, explain}

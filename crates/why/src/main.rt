@@ -3,8 +3,8 @@
 // passed and why, or that the run did not abort. A line that is no such case is answered by `input`.
 #![tactic(auto)]
 
-ghost use Rattle.std.specs.Prelude.{◌≤◌, ◌≡◌, [], ◌∷◌, length};
-ghost use Rattle.semantics.specs.Words.{word, if◌then◌else◌};
+ghost use Rattle.std.specs.Prelude.{◌≤◌, ◌≡◌, [], ◌∷◌, length, if◌then◌else◌};
+ghost use Rattle.semantics.specs.Words.{word};
 ghost use Rattle.semantics.proofs.Registers.{Whole};
 ghost use Rattle.layout.specs.Layout.{LaidOut};
 ghost use Rattle.cases.specs.Cases.{Within};
