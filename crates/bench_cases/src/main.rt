@@ -8,6 +8,7 @@ use text::Scanner;
 
 // Scans a part of a text, and answers the text if it ends there. Answers the scanner for the next part.
 fn take_part(
+    rt: HostRuntime,
     part: &[u8],
     state: u32,
     s: Scanner,
@@ -23,13 +24,14 @@ fn take_part(
     }
     let r = console::answer(numbers, s, values, bases, ends, out);
     if let Output::Printed(n) = r {
-        stream::flush(out, n);
+        stream::flush(rt, out, n);
     }
     Scanner::new()
 }
 
 // Answers every text. A proved loop has to end, so this one counts its turns down from a number that no run uses up.
 fn answer_all(
+    rt: HostRuntime,
     buffer: &mut [u8],
     numbers: &mut [u32],
     values: &mut [u32],
@@ -41,10 +43,11 @@ fn answer_all(
     let mut part = Part::new();
     let mut turns = u64::MAX;
     while turns > 0 && part.state != Part::LAST {
-        part = stream::next_part(buffer, part, b'%');
+        part = stream::next_part(rt, buffer, part, b'%');
         let from = part.from;
         let to = part.to;
         s = take_part(
+            rt,
             &buffer[from..to],
             part.state,
             s,
@@ -58,7 +61,7 @@ fn answer_all(
     }
 }
 
-fn main() {
+fn main(rt: HostRuntime) {
     // So few bytes that texts are cut in many places.
     let mut buffer = [0u8; 61];
     let mut numbers = [0u32; 2538];
@@ -68,6 +71,7 @@ fn main() {
     // Room for the longest answer.
     let mut out = [0u8; 344064];
     answer_all(
+        rt,
         &mut buffer,
         &mut numbers,
         &mut values,

@@ -7,7 +7,6 @@ ghost use Rattle.std.specs.Prelude.{◌≤◌, ◌<◌, length};
 
 use capi::{MavistableAnswer, MavistableVerdict};
 use capi_explain::MavistableExplanation;
-use libc::{STDIN_FILENO, STDOUT_FILENO};
 use stream::{least, put_after};
 use text::Scanner;
 use words::{index, long};
@@ -19,8 +18,9 @@ const EXPLAIN: u32 = 2;
 
 const BARE: u32 = 3;
 
-fn malformed() {
-    io::write_all(STDOUT_FILENO, b"case\n");
+fn malformed(rt: HostRuntime) {
+    let bytes = b"case\n";
+    stream::flush(rt, bytes, bytes.len());
 }
 
 fn put_verdict(out: &mut [u8], at: usize, v: MavistableVerdict) -> usize {
@@ -78,6 +78,7 @@ fn put_lists(out: &mut [u8], at: usize, values: &[u32], bases: &[u32], ends: &[u
 }
 
 fn check_and_run(
+    rt: HostRuntime,
     t: &[u32],
     inputs: &[u32],
     registers: &[u32],
@@ -85,16 +86,17 @@ fn check_and_run(
     bases: &mut [u32],
     ends: &mut [u32],
 ) {
-    let mut out = io::large_buffer();
+    let mut out = [0u8; 65536];
     let v = capi::mavistable_check(t);
     let a = capi::mavistable_run(t, inputs, registers, values, bases, ends);
     let at = put_verdict(&mut out, 0, v);
     let at = put_answer(&mut out, at, b"run ", a);
     let at = put_lists(&mut out, at, values, bases, ends);
-    stream::flush(&out, at);
+    stream::flush(rt, &out, at);
 }
 
 fn explain(
+    rt: HostRuntime,
     t: &[u32],
     inputs: &[u32],
     registers: &[u32],
@@ -102,30 +104,36 @@ fn explain(
     bases: &mut [u32],
     ends: &mut [u32],
 ) {
-    let mut out = io::large_buffer();
+    let mut out = [0u8; 65536];
     let x = capi_explain::mavistable_explain(t, inputs, registers, values, bases, ends);
     let at = put_explanation(&mut out, 0, x);
     let at = put_lists(&mut out, at, values, bases, ends);
-    stream::flush(&out, at);
+    stream::flush(rt, &out, at);
 }
 
-fn run_bare(t: &[u32], inputs: &[u32], registers: &[u32], values: &mut [u32]) {
-    let mut out = io::large_buffer();
+fn run_bare(
+    rt: HostRuntime,
+    t: &[u32],
+    inputs: &[u32],
+    registers: &[u32],
+    values: &mut [u32],
+) {
+    let mut out = [0u8; 65536];
     let a = capi_bare::mavistable_run_bare(t, inputs, registers, values);
     let at = put_answer(&mut out, 0, b"bare ", a);
     let at = put_list(&mut out, at, b"values", values);
-    stream::flush(&out, at);
+    stream::flush(rt, &out, at);
 }
 
 // A case whose registers start at `list` and whose table stands from `from` to `to`.
-fn lend(call: u32, numbers: &[u32], list: usize, from: usize, to: usize)
+fn lend(rt: HostRuntime, call: u32, numbers: &[u32], list: usize, from: usize, to: usize)
     requires { (8 ≤ list) × (list < from) × (from ≤ to) × (to ≤ length numbers.now) }
 {
     let v = index(numbers[2]);
     let b = index(numbers[3]);
     let e = index(numbers[4]);
     if 64 < v || 64 < b || 64 < e {
-        return malformed();
+        return malformed(rt);
     }
     let mut values = [7u32; 64];
     let mut bases = [7u32; 64];
@@ -139,14 +147,14 @@ fn lend(call: u32, numbers: &[u32], list: usize, from: usize, to: usize)
     let b = &mut bases[0..b];
     let e = &mut ends[0..e];
     match call {
-        RUN => check_and_run(t, inputs, registers, v, b, e),
-        EXPLAIN => explain(t, inputs, registers, v, b, e),
-        _ => run_bare(t, inputs, registers, v),
+        RUN => check_and_run(rt, t, inputs, registers, v, b, e),
+        EXPLAIN => explain(rt, t, inputs, registers, v, b, e),
+        _ => run_bare(rt, t, inputs, registers, v),
     }
 }
 
 // Answers the case that the numbers start with, and tells how many of them it has: all that are left where they are no case.
-fn answer_case(numbers: &[u32]) -> usize
+fn answer_case(rt: HostRuntime, numbers: &[u32]) -> usize
     requires { 1 ≤ length numbers.now }
     ensures { (1 ≤ result) × (result ≤ length numbers.now) }
 {
@@ -158,33 +166,33 @@ fn answer_case(numbers: &[u32]) -> usize
             if from <= n {
                 let to = from + index(numbers[from - 1]);
                 if to <= n {
-                    lend(RUN, numbers, list, from, to);
-                    lend(EXPLAIN, numbers, list, from, to);
-                    lend(BARE, numbers, list, from, to);
+                    lend(rt, RUN, numbers, list, from, to);
+                    lend(rt, EXPLAIN, numbers, list, from, to);
+                    lend(rt, BARE, numbers, list, from, to);
                     return to;
                 }
             }
         }
     }
-    malformed();
+    malformed(rt);
     n
 }
 
-fn answer_all(numbers: &[u32]) {
+fn answer_all(rt: HostRuntime, numbers: &[u32]) {
     let mut at = 0;
     while at < numbers.len() {
-        at += answer_case(&numbers[at..]);
+        at += answer_case(rt, &numbers[at..]);
     }
 }
 
 // Standard input has room for 65,536 bytes and 16,384 numbers.
-fn main() {
-    let mut buffer = io::large_buffer();
+fn main(rt: HostRuntime) {
+    let mut buffer = [0u8; 65536];
     let mut numbers = [0u32; 16384];
-    let n = io::read_full(STDIN_FILENO, &mut buffer);
+    let n = stream::read_full(rt, &mut buffer);
     let s = text::scan(&buffer[..n], &mut numbers, Scanner::new());
     let s = text::finish(&mut numbers, s);
     // None where the text is malformed.
     let count = least(s.count, 16384);
-    answer_all(&numbers[0..count]);
+    answer_all(rt, &numbers[0..count]);
 }

@@ -43,6 +43,7 @@ fn put_word(out: &mut [u8], at: usize, value: u32, base: u32, end: u32) -> usize
 
 // Words 1 to `unused` - 1.
 fn put_words(
+    rt: HostRuntime,
     out: &mut [u8],
     at: usize,
     unused: usize,
@@ -54,7 +55,7 @@ fn put_words(
 {
     let mut at = at;
     for i in 1..unused {
-        at = make_room(out, at);
+        at = make_room(rt, out, at);
         at = put_word(out, at, values[i], bases[i], ends[i]);
     }
     at
@@ -62,6 +63,7 @@ fn put_words(
 
 // How a run ended, then the memory of a begun run, or whether a refused one has changed a word.
 fn put_run(
+    rt: HostRuntime,
     out: &mut [u8],
     at: usize,
     a: Answer,
@@ -83,12 +85,12 @@ fn put_run(
         return put_bytes(out, at, b" ; -");
     }
     let at = put_bytes(out, at, b" ;");
-    put_words(out, at, unused, values, bases, ends)
+    put_words(rt, out, at, unused, values, bases, ends)
 }
 
 // The check that was not passed.
-fn put_check(out: &mut [u8], at: usize, x: Cause) -> usize {
-    let at = make_room(out, at);
+fn put_check(rt: HostRuntime, out: &mut [u8], at: usize, x: Cause) -> usize {
+    let at = make_room(rt, out, at);
     let at = put_after(out, at, b" ; ", long(x.node));
     let at = put_after(out, at, b" ", x.place);
     let at = put_after(out, at, b" ", long(x.words));
@@ -97,15 +99,16 @@ fn put_check(out: &mut [u8], at: usize, x: Cause) -> usize {
 }
 
 // An explanation: the check, the reason, and the first word of what the bounds lie in.
-fn put_cause(out: &mut [u8], at: usize, x: Cause) -> usize {
-    let at = put_check(out, at, x);
-    let at = make_room(out, at);
+fn put_cause(rt: HostRuntime, out: &mut [u8], at: usize, x: Cause) -> usize {
+    let at = put_check(rt, out, at, x);
+    let at = make_room(rt, out, at);
     let at = put_after(out, at, b" ", long(x.reason));
     put_after(out, at, b" ", long(x.first))
 }
 
 // The answer of a run, and its explanation if it was begun.
 fn put_explained(
+    rt: HostRuntime,
     out: &mut [u8],
     at: usize,
     e: Explained,
@@ -115,6 +118,7 @@ fn put_explained(
 ) -> usize {
     match e {
         Explained::Refused(number, place) => put_run(
+            rt,
             out,
             at,
             Answer::Refused(number, place),
@@ -123,15 +127,16 @@ fn put_explained(
             ends,
         ),
         Explained::Done(unused) => {
-            let at = put_run(out, at, Answer::Done(unused), values, bases, ends);
+            let at = put_run(rt, out, at, Answer::Done(unused), values, bases, ends);
             put_bytes(out, at, b" ; none")
         }
         Explained::Abort(command, unused, x) => {
-            let at = put_run(out, at, Answer::Abort(command, unused), values, bases, ends);
-            put_cause(out, at, x)
+            let at = put_run(rt, out, at, Answer::Abort(command, unused), values, bases, ends);
+            put_cause(rt, out, at, x)
         }
         Explained::NoRoom(command, unused) => {
             let at = put_run(
+                rt,
                 out,
                 at,
                 Answer::NoRoom(command, unused),
@@ -145,12 +150,12 @@ fn put_explained(
 }
 
 // The words of a list after word 0, up to `end`.
-fn put_values(out: &mut [u8], at: usize, end: usize, values: &[u32]) -> usize
+fn put_values(rt: HostRuntime, out: &mut [u8], at: usize, end: usize, values: &[u32]) -> usize
     requires { end ≤ length values.now }
 {
     let mut at = at;
     for i in 1..end {
-        at = make_room(out, at);
+        at = make_room(rt, out, at);
         at = put_value(out, at, values[i]);
     }
     at
@@ -169,7 +174,7 @@ fn used(values: &[u32]) -> usize {
 }
 
 // How a bare run ended, then the values that it left, or whether a refused one has changed a word.
-fn put_bare(out: &mut [u8], at: usize, a: BareAnswer, values: &[u32]) -> usize {
+fn put_bare(rt: HostRuntime, out: &mut [u8], at: usize, a: BareAnswer, values: &[u32]) -> usize {
     let at = lines::put_bare_ending(out, at, a);
     if let BareAnswer::Refused(_, _) = a {
         if is_changed(values) {
@@ -183,11 +188,12 @@ fn put_bare(out: &mut [u8], at: usize, a: BareAnswer, values: &[u32]) -> usize {
         return put_bytes(out, at, b" ; -");
     }
     let at = put_bytes(out, at, b" ;");
-    put_values(out, at, end, values)
+    put_values(rt, out, at, end, values)
 }
 
 // Runs a table without bounds, in a list that it fills first.
 fn run_bare_filled(
+    rt: HostRuntime,
     t: &[u32],
     inputs: &[u32],
     registers: &[u32],
@@ -197,10 +203,11 @@ fn run_bare_filled(
 ) -> usize {
     fill(values);
     let a = machine::run_bare(t, inputs, registers, values);
-    put_bare(out, at, a, values)
+    put_bare(rt, out, at, a, values)
 }
 
 fn run_bare_case(
+    rt: HostRuntime,
     numbers: &[u32],
     list: usize,
     from: usize,
@@ -214,6 +221,7 @@ fn run_bare_case(
     let inputs_end = list - 1;
     let list_end = from - 1;
     run_bare_filled(
+        rt,
         &numbers[from..],
         &numbers[7..inputs_end],
         &numbers[list..list_end],
@@ -225,6 +233,7 @@ fn run_bare_case(
 
 // Runs a table in lists that it fills first, and explains the run if asked to.
 fn run_filled(
+    rt: HostRuntime,
     explains: bool,
     t: &[u32],
     inputs: &[u32],
@@ -240,13 +249,14 @@ fn run_filled(
     fill(ends);
     if explains {
         let e = machine::explain(t, inputs, registers, values, bases, ends);
-        return put_explained(out, at, e, values, bases, ends);
+        return put_explained(rt, out, at, e, values, bases, ends);
     }
     let a = machine::run(t, inputs, registers, values, bases, ends);
-    put_run(out, at, a, values, bases, ends)
+    put_run(rt, out, at, a, values, bases, ends)
 }
 
 fn run_case(
+    rt: HostRuntime,
     explains: bool,
     numbers: &[u32],
     list: usize,
@@ -266,6 +276,7 @@ fn run_case(
     let inputs_end = list - 1;
     let list_end = from - 1;
     run_filled(
+        rt,
         explains,
         &numbers[from..],
         &numbers[7..inputs_end],
@@ -290,6 +301,7 @@ fn check_case(t: &[u32], out: &mut [u8], at: usize) -> usize {
 }
 
 fn answer_numbers(
+    rt: HostRuntime,
     numbers: &[u32],
     values: &mut [u32],
     bases: &mut [u32],
@@ -298,17 +310,19 @@ fn answer_numbers(
     at: usize,
 ) -> usize {
     match Case::of(numbers) {
-        Case::Run(list, from) => run_case(false, numbers, list, from, values, bases, ends, out, at),
+        Case::Run(list, from) => run_case(rt, false, numbers, list, from, values, bases, ends, out, at),
         Case::Check(from) => check_case(&numbers[from..], out, at),
         Case::Explain(list, from) => run_case(
+            rt,
             true, numbers, list, from, values, bases, ends, out, at,
         ),
-        Case::Bare(list, from) => run_bare_case(numbers, list, from, values, out, at),
+        Case::Bare(list, from) => run_bare_case(rt, numbers, list, from, values, out, at),
         Case::Malformed => put_bytes(out, at, b"case"),
     }
 }
 
 fn answer_line(
+    rt: HostRuntime,
     line: Line,
     numbers: &[u32],
     values: &mut [u32],
@@ -323,13 +337,14 @@ fn answer_line(
         return at;
     }
     let count = line.count;
-    let at = make_room(out, at);
-    let at = answer_numbers(&numbers[0..count], values, bases, ends, out, at);
+    let at = make_room(rt, out, at);
+    let at = answer_numbers(rt, &numbers[0..count], values, bases, ends, out, at);
     put_bytes(out, at, b"\n")
 }
 
 // Answers every line. A proved loop has to end, so this one counts its turns down from a number that no run uses up.
 fn answer_all(
+    rt: HostRuntime,
     buffer: &mut [u8],
     numbers: &mut [u32],
     values: &mut [u32],
@@ -341,22 +356,23 @@ fn answer_all(
     let mut part = Part::new();
     let mut turns = u64::MAX;
     while turns > 0 && part.state != Part::LAST {
-        let line = cases::next_line(buffer, numbers, part);
+        let line = cases::next_line(rt, buffer, numbers, part);
         part = line.part;
-        at = answer_line(line, numbers, values, bases, ends, out, at);
+        at = answer_line(rt, line, numbers, values, bases, ends, out, at);
         turns -= 1;
     }
     at
 }
 
-fn main() {
-    let mut buffer = io::large_buffer();
+fn main(rt: HostRuntime) {
+    let mut buffer = [0u8; 65536];
     let mut numbers = [0u32; Case::NUMBERS];
     let mut values = [0u32; Case::WORDS];
     let mut bases = [0u32; Case::WORDS];
     let mut ends = [0u32; Case::WORDS];
-    let mut out = io::large_buffer();
+    let mut out = [0u8; 65536];
     let at = answer_all(
+        rt,
         &mut buffer,
         &mut numbers,
         &mut values,
@@ -364,5 +380,5 @@ fn main() {
         &mut ends,
         &mut out,
     );
-    stream::flush(&out, at);
+    stream::flush(rt, &out, at);
 }

@@ -289,6 +289,7 @@ fn answer_line(
 
 // Answers every line. A proved loop has to end, so this one counts its turns down from a number that no run uses up.
 fn answer_all(
+    rt: HostRuntime,
     buffer: &mut [u8],
     numbers: &mut [u32],
     values: &mut [u32],
@@ -301,16 +302,16 @@ fn answer_all(
     let mut part = Part::new();
     let mut turns = u64::MAX;
     while turns > 0 && part.state != Part::LAST {
-        let line = cases::next_line(buffer, numbers, part);
+        let line = cases::next_line(rt, buffer, numbers, part);
         part = line.part;
         let n = answer_line(line, numbers, values, bases, ends, out);
-        stream::flush(out, n);
+        stream::flush(rt, out, n);
         turns -= 1;
     }
 }
 
-fn main() {
-    let mut buffer = io::large_buffer();
+fn main(rt: HostRuntime) {
+    let mut buffer = [0u8; 65536];
     let mut numbers = [0u32; Case::NUMBERS];
     let mut values = [0u32; Case::WORDS];
     let mut bases = [0u32; Case::WORDS];
@@ -318,6 +319,7 @@ fn main() {
     // Room for the longest answer.
     let mut out = [0u8; 512];
     answer_all(
+        rt,
         &mut buffer,
         &mut numbers,
         &mut values,
