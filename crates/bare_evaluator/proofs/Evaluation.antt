@@ -2,7 +2,7 @@
 use Prim.Native.Nat.{ℕ, ◌+◌, ◌*◌, ◌%◌, ◌≤◌, ◌<◌}
 use mathlib.Core.Path.{◌≡◌, refl, sym, ap, subst, ◌∙◌}
 use mathlib.Core.List.{List, map}
-use denote.Ref.{Bor, MutBor}
+use denote.Ref.{MutBor}
 use native.Mathlib.Omega.{arith}
 use native.Mathlib.Nat.{one-mul}
 use lib.ListN.{length}
@@ -264,12 +264,12 @@ module _ {l m m₁ : List Words} {n k a v x u u₁ : ℕ} (b : Binary x) (e : k 
 
 -- ---- calls that only read memory, and two ways that meet
 
-pub kept_lists : {l m : List Words} {n u r u' : ℕ} {m₁ m₂ : List (Bor (List ℕ))} → m₂ ≡ m₁ → ValueAnswered l m n u r (map (λ x. x.now) m₁) u' → ValueAnswered l m n u r (map (λ x. x.now) m₂) u'
+pub kept_lists : {l m : List Words} {n u r u' : ℕ} {m₁ m₂ : List (MutBor (List ℕ))} → m₂ ≡ m₁ → ValueAnswered l m n u r (map (λ x. x.now) m₁) u' → ValueAnswered l m n u r (map (λ x. x.now) m₂) u'
 kept_lists {l} {m} {n} {u} {r} {u'} same h = subst (λ x. ValueAnswered l m n u r (map (λ y. y.now) x) u') (sym same) h
 
-pub kept_names : {m₁ m₂ : List (MutBor (List ℕ))} → m₂ ≡ m₁ → map (λ x. x.name) m₂ ≡ map (λ x. x.name) m₁
-kept_names same = ap (map (λ x. x.name)) same
+pub kept_names : {m₁ m₂ : List (MutBor (List ℕ))} → m₂ ≡ m₁ → map (λ x. x.ghost_name) m₂ ≡ map (λ x. x.ghost_name) m₁
+kept_names same = ap (map (λ x. x.ghost_name)) same
 
-pub joined : {l m : List Words} {n u v v' u₁ u₁' : ℕ} {m₁ m₁' : List (Bor (List ℕ))} → m₁' ≡ m₁ → u₁' ≡ u₁ → v' ≡ v
+pub joined : {l m : List Words} {n u v v' u₁ u₁' : ℕ} {m₁ m₁' : List (MutBor (List ℕ))} → m₁' ≡ m₁ → u₁' ≡ u₁ → v' ≡ v
     → ValueAnswered l m n u v (map (λ x. x.now) m₁) u₁ → ValueAnswered l m n u v' (map (λ x. x.now) m₁') u₁'
 joined hm hu hv h = rw (hm, hu, hv) h

@@ -1,0 +1,17 @@
+-- A variable's word is told with no more work.
+use Rattle.std.proofs.Common.{◌+◌, refl, ap, arith}
+use Rattle.lookups.proofs.Ready.{item_at, note_at}
+use Rattle.lookups.proofs.Shortcuts.{is_variable}
+use Rattle.bare_evaluator.proofs.Evaluation.{variable_small, variable_answer}
+use Rattle.bare_evaluator.proofs.assigned.Goals as goal
+
+pub noted-requires : goal.noted-requires
+noted-requires c = note_at c.requires
+
+pub item-requires : goal.item-requires
+item-requires c = item_at c.requires 1 (omega arith)
+
+pub returns-then-of_variable : goal.returns-then-of_variable
+returns-then-of_variable c =
+    let q = is_variable c.noted.ensures c.if-of_variable.true c.of_variable.ensures in
+    (variable_answer c.item.ensures q (ap (λ x. x + 1) c.long.ensures.0) (omega (arith, variable_small c.requires q c.item.ensures, c.long.ensures.0)), refl)
