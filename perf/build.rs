@@ -1,5 +1,5 @@
 //! Links the proved library: the archive that CAPI names, or the one that
-//! `rt staticlib capi` writes, and beside it those that EXPLAIN and BARE name,
+//! `tools/archive capi` makes, and beside it those that EXPLAIN and BARE name,
 //! each for one more call.
 
 use std::env;

@@ -1,13 +1,11 @@
 """The proved machine: the program `replay`, which answers a call a line (the crate `cases` says how a line is read). Nothing here works out an
 answer: it builds the program, writes the lines and reads what comes back."""
 
-import fcntl
 import re
 import shutil
 import subprocess
 import sys
 import time
-from contextlib import contextmanager
 from dataclasses import dataclass, field
 from pathlib import Path
 
@@ -63,18 +61,21 @@ class Call:
 
 
 def crates_below(name):
-    """The crates of this repository that one is proved with, itself among them."""
+    """The crates of this repository that one is proved with, in the order in which rt takes them, itself the last."""
     needs = {}
     for line in (ROOT / "crates.txt").read_text().splitlines():
-        if ":" in line and not line.startswith("#"):
-            crate, _, others = line.partition(":")
-            needs[crate] = others.split()
-    found, new = set(), [name]
-    while new:
-        crate = new.pop()
+        crate, colon, others = line.partition("#")[0].partition(":")
+        if colon:
+            needs[crate.split()[0]] = others.split()
+    found = []
+
+    def take(crate):
         if crate in needs and crate not in found:
-            found.add(crate)
-            new.extend(needs[crate])
+            for other in needs[crate]:
+                take(other)
+            found.append(crate)
+
+    take(name)
     return found
 
 
@@ -82,13 +83,11 @@ class Progress:
     """One line on standard error that says which crate was proved last, how many are, and the seconds. Nothing if all were proved before."""
 
     def __init__(self, crates):
-        self.crates, self.done, self.began, self.width = crates, 0, time.monotonic(), 0
+        self.crates, self.began, self.width = crates, time.monotonic(), 0
 
-    def proved(self, crate, unchanged):
-        self.done += 1
-        if not unchanged:
-            seconds = time.monotonic() - self.began
-            self.show(f"mavis: proving the machine: {crate}, {self.done} of {self.crates} crates, {seconds:.0f} s")
+    def proved(self, crate):
+        done, seconds = self.crates.index(crate) + 1, time.monotonic() - self.began
+        self.show(f"mavis: proving the machine: {crate}, {done} of {len(self.crates)} crates, {seconds:.0f} s")
 
     def show(self, line):
         print("\r" + line.ljust(self.width), end="", file=sys.stderr, flush=True)
@@ -99,30 +98,21 @@ class Progress:
             print(file=sys.stderr)
 
 
-@contextmanager
-def alone():
-    """One build at a time: of two at once each takes the other's notes for its own, and proves everything again. routines/prove has this lock too."""
-    with open(ROOT / "crates.txt") as file:
-        fcntl.flock(file, fcntl.LOCK_EX)
-        yield
-
-
 def build():
     """Proves and links the program if anything below it has changed. `rt` looks at every file, so that no old program is ever used."""
     if not shutil.which("rt"):
         raise Usage("mavis: the Rattle toolchain is needed: there is no command rt")
-    progress = Progress(len(crates_below(PROGRAM)))
-    command = ["rt", "check", PROGRAM]
+    progress = Progress(crates_below(PROGRAM))
     log = []
-    with alone(), subprocess.Popen(command, cwd=ROOT, stdout=subprocess.PIPE, stderr=subprocess.STDOUT, text=True) as run:
-        for line in run.stdout:
+    with subprocess.Popen([ROOT / "routines/prove", PROGRAM], stdout=subprocess.DEVNULL, stderr=subprocess.PIPE, text=True) as run:
+        for line in run.stderr:
             log.append(line)
-            proved = re.match(r"rt: (\w+) proved \((unchanged)?", line)
+            proved = re.match(r"routines/prove: (\w+) proved \(", line)
             if proved:
-                progress.proved(proved[1], bool(proved[2]))
+                progress.proved(proved[1])
     progress.end()
     if run.returncode != 0:
-        raise Stop("".join(log[-20:]) + f"mavis: the machine could not be built: {' '.join(command)} failed")
+        raise Stop("".join(log[-40:]) + f"mavis: the machine could not be built: routines/prove {PROGRAM} failed")
 
 
 class Machine:

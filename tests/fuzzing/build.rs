@@ -1,4 +1,4 @@
-//! Links the three archives that `rt staticlib` writes. WRONG and WRAPPED are for
+//! Links the three archives that `tools/archive` makes. WRONG and WRAPPED are for
 //! planted-are-found alone: an object file, and the functions of the library
 //! that it stands before.
 

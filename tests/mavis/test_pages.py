@@ -14,8 +14,8 @@ NOT_RUN = {
     "tests/workbench",
     "perf/run",
     "examples/run",
-    "rt staticlib capi",
-    "rt staticlib capi_explain",
+    "tools/archive capi",
+    "tools/archive capi_explain",
     "python3 -m unittest discover -s tests/mavis",
     "apt-get install python3-pycparser",
 }
@@ -29,7 +29,7 @@ def build(page):
     machine.build()
     if any(block.info == "console" and "routines/run" in "\n".join(block.lines) for block in page.blocks):
         for program in ("bench", "why"):
-            subprocess.run(["rt", "check", program], cwd=ROOT, check=True, stdout=subprocess.DEVNULL, stderr=subprocess.DEVNULL)
+            subprocess.run([ROOT / "routines/prove", program], check=True, stderr=subprocess.DEVNULL)
 
 
 class Pages(unittest.TestCase):

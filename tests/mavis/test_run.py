@@ -9,6 +9,9 @@ import unittest
 from pathlib import Path
 
 from support import DECLARATIONS, MACHINE, ROOT, mavis, routine
+from workbench.machine import crates_below
+
+PROVED = "logic=proved functions=1"  # what rt's log of a proved crate ends with
 
 
 def in_file(folder, text, name="test.c"):
@@ -250,7 +253,7 @@ class Building(unittest.TestCase):
         """Runs mavis with a command rt that does this; what it was called with is in the file `called`."""
         with tempfile.TemporaryDirectory() as folder:
             path = Path(folder, "rt")
-            path.write_text(f'#!/bin/sh\necho "$@" >> "{folder}/called"\n{script}\n')
+            path.write_text(f'#!/bin/sh\necho "$* in ${{PWD##*/}}" >> "{folder}/called"\n{script}\n')
             path.chmod(path.stat().st_mode | stat.S_IXUSR)
             result = mavis(*arguments, PATH=f"{folder}:{os.environ['PATH']}")
             return result, Path(folder, "called").read_text() if Path(folder, "called").exists() else ""
@@ -260,16 +263,17 @@ class Building(unittest.TestCase):
         subprocess.run([ROOT / "routines/prove", "why"], check=True)
 
     def test_every_use_asks_rt(self):
-        (status, _, error), called = self.with_rt(
-            "echo 'rt: semantics proved (unchanged since it was last proved)'", "check", "routines/list.txt"
-        )
-        self.assertEqual((status, error, called), (0, "", "check replay\n"))
+        script = "echo 'rt: nothing has changed since the last proved build' >&2"
+        (status, _, error), called = self.with_rt(script, "check", "routines/list.txt")
+        self.assertEqual((status, error, called), (0, "", "run in replay\n"))
 
     def test_one_progress_line(self):
-        script = "echo 'rt: semantics proved (3 s)'; echo 'a line of the log'; echo 'rt: words proved (1 s)'"
+        first, second = crates_below("replay")[:2]
+        lines = [f"rt: chose --jobs 2 for {first}", "a line of the log", PROVED, f"rt: chose --jobs 2 for {second}", PROVED]
+        script = "\n".join(f"echo '{line}' >&2" for line in lines)
         (status, _, error), _ = self.with_rt(script, "check", "routines/list.txt")
         self.assertEqual((status, error.count("\n")), (0, 1))
-        self.assertRegex(error, r"words, 2 of [0-9]+ crates, [0-9]+ s *\n")
+        self.assertRegex(error, rf"{second}, 2 of [0-9]+ crates, [0-9]+ s *\n")
 
     def test_one_build_at_a_time(self):
         """Two commands at once: rt is asked by one after the other."""
@@ -286,10 +290,10 @@ class Building(unittest.TestCase):
             self.assertEqual(Path(folder, "log").read_text().split(), ["begin", "end"] * 2)
 
     def test_a_failed_build_is_told(self):
-        (status, output, error), _ = self.with_rt("echo 'rt: steps: not proved'; exit 1", "check", "routines/list.txt")
+        (status, output, error), _ = self.with_rt("echo 'fn steps: not proved' >&2; exit 1", "check", "routines/list.txt")
         self.assertEqual((status, output), (3, ""))
         self.assertIn("not proved", error)
-        self.assertIn("rt check replay failed", error)
+        self.assertIn("routines/prove replay failed", error)
 
     def test_without_rt(self):
         path = os.pathsep.join(part for part in os.environ["PATH"].split(os.pathsep) if not Path(part, "rt").exists())

@@ -1,7 +1,7 @@
 """The programs and scripts under test, and a stand-in for rt.
 
-The scripts ask rt each time whether all is still proved, which takes 0.3 s, and proving a changed source takes minutes. So most tests put a
-stand-in for rt first on PATH. It logs how it was called and does what the test has it do."""
+The scripts ask rt each time whether all is still proved, which takes half a second, and proving a changed source takes minutes. So most tests put a
+stand-in for rt first on PATH. It logs how it was called, and in which crate's folder, and does what the test has it do."""
 import os
 import shutil
 import subprocess
@@ -47,7 +47,7 @@ class ScriptTest(unittest.TestCase):
     def stand_in(self, script):
         """Has the stand-in for rt do this, after it has logged its call."""
         rt = self.path / "rt"
-        rt.write_text(f'#!/bin/sh\necho "$*" >> "{self.calls}"\n{script}\n')
+        rt.write_text(f'#!/bin/sh\necho "$* in ${{PWD##*/}}" >> "{self.calls}"\n{script}\n')
         rt.chmod(0o755)
 
     def rt_calls(self):
@@ -83,8 +83,13 @@ class ScriptTest(unittest.TestCase):
 
 
 def copy_scripts(to):
-    """Copies the scripts and what they read, and no source that is proved."""
-    for name in "routines", "examples", "include":
+    """Copies the scripts and what they read, and of the crates that are built the folders alone: no source that is proved."""
+    for name in "routines", "examples", "include", "tools":
         shutil.copytree(ROOT / name, to / name)
-    for name in "bin", "stamp", "staticlib":
-        (to / "target" / name).mkdir(parents=True)
+    for program in "bench", "replay", "why":
+        for folder in "src", "out":
+            (to / "crates" / program / folder).mkdir(parents=True)
+        (to / "crates" / program / "src" / "main.rt").touch()
+    for library in "capi/out/rlib", "capi_c/src", "capi_c/out":
+        (to / "crates" / library).mkdir(parents=True)
+    (to / "crates.txt").touch()
