@@ -1,5 +1,5 @@
 -- What the functions that finish a node answer is what the rules' steps give.
-use Rattle.std.proofs.Common.{◌≡◌, ℕ, ◌+◌, ◌*◌, ◌%◌, ◌<◌, ◌≤◌, Bool, true, false, List, [], ◌∷◌, length, sym, refl, ◌∙◌, subst, inl, inr, arith, lt-ltb, eq-eqb, ne_eqb, le-leb}
+use Rattle.std.proofs.Common.{◌≡◌, ℕ, ◌+◌, ◌*◌, ◌%◌, ◌^◌, ◌<◌, ◌≤◌, Bool, true, false, List, [], ◌∷◌, length, sym, refl, ◌∙◌, subst, inl, inr, lt_of_le_of_lt, le_of_lt, mul-le-mul_left, mul-lt-mul_of_pos_right, arith, lt-ltb, eq-eqb, ne_eqb, le-leb}
 use borrow.Author.Tests.{lt-leb}
 use Rattle.words.specs.Columns.{column}
 use Rattle.semantics.specs.Words.{Words, word}
@@ -133,6 +133,10 @@ module _ {v w x y : ℕ} {m : List Words} {s s' : Words} (n o k : ℕ) (under : 
       rw (same, ← xk) (checked_no p _ log (rw (same_left i refl, ← left) short) h t i.base i.end watch))
 
 -- ---- values
+
+-- A product of two words fits in 64 bits.
+pub product_fits : {a b : ℕ} → a < 2 ^ 32 → b < 2 ^ 32 → a * b < 2 ^ 64
+product_fits {a} ha hb = lt_of_le_of_lt (mul-le-mul_left a (le_of_lt hb)) (mul-lt-mul_of_pos_right ha (omega arith))
 
 -- The bounds of a sum, in the slots s': p is the left operand, and the right one has its bounds in s.
 abbrev pub Chosen : Datum → Words → Words → Type 0
