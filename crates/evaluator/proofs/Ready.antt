@@ -16,7 +16,7 @@ use Rattle.semantics.proofs.Steps.{ValueOk, place_good, value_good}
 use Rattle.lookups.specs.Lists.{part}
 use Rattle.lookups.proofs.Nodes.{variable_node, Binary, copies, binary_node}
 use Rattle.lookups.proofs.Ready.{kind_is, a_is, b_is}
-use Rattle.steps.specs.Answers.{slots, end_slot, failed, Inside}
+use Rattle.steps.specs.Answers.{slots, end_slot, unused_slot, failed, state_of, Inside}
 use Rattle.evaluator.specs.Result.{PlaceReady, ValueReady, PlaceAnswered, ValueAnswered}
 use Rattle.steps.proofs.Finish.{touched}
 use Rattle.evaluator.proofs.Outcomes.{lengths_after, worked_out}
@@ -68,17 +68,17 @@ right_ready {n = n} b h e q p g answer under =
 pub copy_inside : {l m m₁ m₂ : List Words} {n k a d v w : ℕ} {s s₁ s₂ : Words} (h : ValueReady l m n s) → k ≡ part l n 0 → k ≡ 11 → a ≡ part l n 1 → d ≡ part l n 2
     → ValueAnswered l m a s v m₁ s₁ → v < failed → ValueAnswered l m₁ d s₁ w m₂ s₂ → Inside (word s₁ end_slot) m₂ × (w < failed → Inside (word s₂ end_slot) m₂)
 unfolding right_ready
-copy_inside {w = w} {s₁ = s₁} {s₂ = s₂} h e q p g left under right =
+copy_inside {m₁ = m₁} {m₂ = m₂} {w = w} {s₁ = s₁} {s₂ = s₂} h e q p g left under right =
     let c = left_operand copies h e q p in
     let d = (right_ready copies h e q p g left under).1 in
     let first = worked_out (left.meets h.table h.lists c.0 h.state.vars h.state.watched h.state.log h.state.stands c.1) (value_good c.1 _ h.state.stands.inv) under in
     let answer = right.meets h.table h.lists d.node h.state.vars h.state.watched first.log first.stands d.tree in
     let good = value_good d.tree _ first.stands.inv in
     let all = lengths_after answer good in
-    let to = bounds_inside first.stands.inv first.fine.sound in (
+    let to = bounds_inside {b = first.result.base} {e = first.result.end} {st = state_of m₁ (word s₁ unused_slot) first.log} first.stands.inv first.fine.sound in (
       record { values = omega (arith, all.0, to, first.is.end); bases = omega (arith, all.1, to, first.is.end); ends = omega (arith, all.2, to, first.is.end) },
       (λ small.
           let second = worked_out answer good small in
-          let from = bounds_inside second.stands.inv second.fine.sound in
+          let from = bounds_inside {b = second.result.base} {e = second.result.end} {st = state_of m₂ (word s₂ unused_slot) second.log} second.stands.inv second.fine.sound in
           record { values = omega (arith, from, second.is.end); bases = omega (arith, all.0, all.1, from, second.is.end); ends = omega (arith, all.0, all.2, from, second.is.end) }),
     )

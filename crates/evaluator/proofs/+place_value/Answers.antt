@@ -1,6 +1,5 @@
 -- Each call is made for a child of the node, which is ready and stands before it, and what is answered is what the rules give.
-use Rattle.std.proofs.Common.{ℕ, ◌≡◌, ◌%◌, ◌≤◌, refl, sym, ap, ◌∙◌, map, length, arith, rules}
-use Rattle.steps.specs.Answers.{slots}
+use Rattle.std.proofs.Common.{ℕ, ◌≡◌, ◌%◌, ◌≤◌, refl, sym, ap, ◌∙◌, map, arith, rules}
 use Rattle.evaluator.specs.Result.{ValueAnswered}
 use Rattle.lookups.proofs.Nodes.{sums, copies}
 use Rattle.lookups.proofs.Ready.{address_ready, cast_ready, constant_kind, constant_malloc, copy_asks, deref_ready, drops_ready, falls_to, field_asks, field_child, field_ready, first_ready, is_copy, is_field, item_at, item_of, last_kinds, left_ready, malloc_ready, note_of, read_ready, size_ready, step_ready}

@@ -2,7 +2,6 @@
 use Rattle.std.proofs.Common.{refl, arith}
 use Rattle.lookups.proofs.Ready.{item_at, note_at}
 use Rattle.lookups.proofs.Shortcuts.{is_constant, reads_variable}
-use Rattle.evaluator.proofs.Outcomes.{kept_names}
 use Rattle.evaluator.proofs.Noted.{constant_answer}
 use Rattle.evaluator.proofs.result.Goals as goal
 
