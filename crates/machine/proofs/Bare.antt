@@ -32,12 +32,6 @@ module _ {vars : ℕ} {inputs registers vs : Words} (x : CanBegin vars inputs re
   zeros : Words
   zeros = replicate (length vs) 0
 
-  pub registers_placeable : AllPlaceable registers u v₁
-  unfolding zeros
-  registers_placeable =
-      let f = registers_fit x {b₁ = zeros} {e₁ = zeros} refl refl hv hu in
-      record { table = f.table; list = f.list; first = f.first; room = omega (arith, f.inv.low, f.inv.high); most = f.most }
-
   module _ {u' : ℕ} {v₂ : Words} (placed : RegistersPlaced registers (register_count registers) v₁ u v₂ u') where
     with_bounds : RegistersSet registers (register_count registers) v₁ zeros zeros u v₂ (registers_below registers (register_count registers) (memory v₁ zeros zeros u)).bases
         (registers_below registers (register_count registers) (memory v₁ zeros zeros u)).ends u'
@@ -59,9 +53,6 @@ module _ {vars : ℕ} {inputs registers vs : Words} (x : CanBegin vars inputs re
         }
 
 -- ---- the answer
-
-pub executed_told : {t vs vs' : Words} {u : ℕ} {e : Ended} (r : BareAnswer) → commands.Executed t (vs ∷ []) u e (vs' ∷ []) → bare_answer_of r ≡ ended_of e → ExecutedBare t vs u r vs'
-executed_told {vs' = vs'} r h same = record { is = rw same h.is }
 
 -- A call that is refused.
 bare_refused : (t inputs registers vs : Words) {n p : ℕ} → call_fault t inputs registers (length vs) ≡ refused n p → CalledBare t inputs registers vs (Refused n p) vs
