@@ -1,12 +1,12 @@
 -- A whole bare call of a table that passed the check, from what its parts did.
 use Prim.Native.Nat.{ℕ, ◌+◌, ◌-◌, ◌≤◌, ◌<◌}
 use mathlib.Core.Path.{◌≡◌, refl, sym, ap, ◌∙◌}
-use mathlib.Core.List.{[], ◌∷◌, ◌++◌}
+use mathlib.Core.List.{◌++◌}
 use native.Mathlib.Omega.{arith}
 use lib.ListN.{length, take, replicate, set}
 use lib.Seq.{sets}
 use Rattle.semantics.specs.Words.{Words}
-use Rattle.semantics.specs.Table.{variables, commands, count}
+use Rattle.semantics.specs.Table.{variables, count}
 use Rattle.semantics.specs.Registers.{register_count}
 use Rattle.semantics.specs.Check.{passes, refused, check}
 use Rattle.semantics.specs.Check as Check
@@ -15,15 +15,12 @@ use Rattle.semantics.specs.Bare.{call_fault, run, call}
 use Rattle.semantics.proofs.Safety.{begin_inv}
 use Rattle.semantics.proofs.Agreement.{registers_bared, begin_bared}
 use Rattle.layout.proofs.Laws.{or_else_pass, or_else_refuse}
-use Rattle.registers.specs.Blocks.{memory, RegistersSet, RegistersPlaced, AllPlaceable}
-use Rattle.bare_commands.specs.Execution as commands
-use Rattle.bare_commands.specs.Execution.{ended_of}
-use Rattle.bare_commands.specs.declared.Ended.{Ended}
+use Rattle.registers.specs.Blocks.{memory, RegistersSet, RegistersPlaced}
 use Rattle.machine.specs.Run.{CanBegin}
-use Rattle.machine.specs.Bare.{bare_answer_of, HasBegunBare, ExecutedBare, CalledBare}
+use Rattle.machine.specs.Bare.{HasBegunBare, ExecutedBare, CalledBare}
 use Rattle.machine.specs.declared.BareAnswer.{BareAnswer}
 use Rattle.machine.specs.declared.BareAnswer.TheVariants.{Refused}
-use Rattle.machine.proofs.Calls.{rest_fault, registers_fit, unused_fits, has_begun}
+use Rattle.machine.proofs.Calls.{rest_fault, unused_fits, has_begun}
 
 -- ---- the memory at the start
 

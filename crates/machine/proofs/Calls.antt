@@ -17,12 +17,10 @@ use Rattle.semantics.proofs.Safety.{Begun, begun, cleared_inv, begin_inv}
 use Rattle.lookups.specs.Lists.{Lists}
 use Rattle.semantics.proofs.Explain.{failure_told}
 use Rattle.steps.specs.Answers.{state_of, check_told}
-use Rattle.layout.specs.Layout.{verdict_of, section_of, layout, layout_by, Stands}
+use Rattle.layout.specs.Layout.{section_of, layout, layout_by, Stands}
 use Rattle.layout.specs.declared.Table.{Table}
 use Rattle.layout.specs.declared.Parsed.TheVariants as parsed
-use Rattle.layout.specs.declared.Verdict as told
-use Rattle.layout.specs.declared.Verdict.TheVariants as the
-use Rattle.layout.proofs.Laws.{or_else_pass, or_else_refuse, told_as, item_at}
+use Rattle.layout.proofs.Laws.{or_else_pass, or_else_refuse, item_at}
 use Rattle.words.proofs.Lists.{front_sets, zeros_from}
 use Rattle.registers.specs.Blocks.{memory, Holds, RegistersSet, Alike, AllFit}
 use Rattle.registers.proofs.Blocks.{registers_alike}
@@ -32,12 +30,11 @@ use Rattle.commands.specs.Execution.{ended_of, Starts}
 use Rattle.steps.specs.declared.FailedCheck.{FailedCheck}
 use Rattle.commands.specs.declared.Ended.{Ended}
 use Rattle.commands.specs.declared.Ended.TheVariants.{Done, Abort, NoRoom}
-use Rattle.machine.specs.Run.{answer_of, Is, Program, CanBegin, HasBegun}
-use Rattle.machine.specs.Explain.{answer_told, reason_by, started, ended_because, TellsEnded, Startable, Executed, Watchable, Called}
+use Rattle.machine.specs.Run.{Program, CanBegin, HasBegun}
+use Rattle.machine.specs.Explain.{reason_by, started, ended_because, TellsEnded, Startable, Executed, Watchable, Called}
 use Rattle.machine.specs.declared.Explained.{Explained}
 use Rattle.machine.specs.declared.Explained.TheVariants.{Refused}
 use Rattle.machine.specs.declared.Explained.TheVariants as the_answer
-use Rattle.machine.specs.declared.Answer.{Answer}
 
 -- ---- what the check answered
 
