@@ -53,12 +53,6 @@ module _ (vs bs es out₀ : List ℕ) (at unused : ℕ) where
       let before : suc n - 1 ≡ n = omega arith in
       record { same = omega arith; from = omega arith; until = omega arith; put = rw here (puts_then (rw before at p.put) puts) }
 
-  pub printing_all : {out : List ℕ} {at' : ℕ} {i : ℕ} → Printing out at' i → unused ≤ i → PutsItems (memory_lines unused vs bs es) out₀ at out at'
-  printing_all {out} {at'} {i} p all =
-      let until = p.until in
-      let last : i - 1 ≡ unused - 1 = omega arith in
-      rw last at p.put
-
 -- By the calls of `put_answer` in turn: `put_ending`, `put_bytes`, `unused_after` and `put_memory`.
 pub puts_answer : (a : Answer) (vs bs es : Words) {out : List ℕ} {at : ℕ}
     → {out₁ : List ℕ} {r₁ : ℕ} → PutsItems (ending_line a) out at out₁ r₁
