@@ -71,7 +71,14 @@ fn main(rt: HostRuntime) {
     let mut ends = [0u32; 4096];
     // Room for the longest answer.
     let mut out = [0u8; 344064];
-    let r = answer_input(rt, &mut numbers, &mut values, &mut bases, &mut ends, &mut out);
+    let r = answer_input(
+        rt,
+        &mut numbers,
+        &mut values,
+        &mut bases,
+        &mut ends,
+        &mut out,
+    );
     if let Output::Printed(n) = r {
         stream::flush(rt, &out, n);
     }

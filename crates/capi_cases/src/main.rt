@@ -111,13 +111,7 @@ fn explain(
     stream::flush(rt, &out, at);
 }
 
-fn run_bare(
-    rt: HostRuntime,
-    t: &[u32],
-    inputs: &[u32],
-    registers: &[u32],
-    values: &mut [u32],
-) {
+fn run_bare(rt: HostRuntime, t: &[u32], inputs: &[u32], registers: &[u32], values: &mut [u32]) {
     let mut out = [0u8; 65536];
     let a = capi_bare::mavistable_run_bare(t, inputs, registers, values);
     let at = put_answer(&mut out, 0, b"bare ", a);

@@ -131,7 +131,15 @@ fn put_explained(
             put_bytes(out, at, b" ; none")
         }
         Explained::Abort(command, unused, x) => {
-            let at = put_run(rt, out, at, Answer::Abort(command, unused), values, bases, ends);
+            let at = put_run(
+                rt,
+                out,
+                at,
+                Answer::Abort(command, unused),
+                values,
+                bases,
+                ends,
+            );
             put_cause(rt, out, at, x)
         }
         Explained::NoRoom(command, unused) => {
@@ -310,11 +318,12 @@ fn answer_numbers(
     at: usize,
 ) -> usize {
     match Case::of(numbers) {
-        Case::Run(list, from) => run_case(rt, false, numbers, list, from, values, bases, ends, out, at),
+        Case::Run(list, from) => run_case(
+            rt, false, numbers, list, from, values, bases, ends, out, at,
+        ),
         Case::Check(from) => check_case(&numbers[from..], out, at),
         Case::Explain(list, from) => run_case(
-            rt,
-            true, numbers, list, from, values, bases, ends, out, at,
+            rt, true, numbers, list, from, values, bases, ends, out, at,
         ),
         Case::Bare(list, from) => run_bare_case(rt, numbers, list, from, values, out, at),
         Case::Malformed => put_bytes(out, at, b"case"),

@@ -10,6 +10,6 @@ pub returns : goal.returns
 returns c =
     c.owner_above.ensures
     ∙ elim c.if-w-ge1.branch [
-        then-w-ge1+else-index-variables w ↦ above_variables _ _ _ (omega arith) (omega arith)
+      | then-w-ge1+else-index-variables w ↦ above_variables _ _ _ (omega arith) (omega arith)
       | else-w-ge1 w ↦ below_variables _ _ _ (omega arith)
-      ]
+    ]
