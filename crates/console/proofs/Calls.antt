@@ -10,7 +10,7 @@ use lib.ListN.{length, take, drop, get_or, replicate, length-replicate}
 use lib.Seq.{length-take-le}
 use Rattle.semantics.specs.Words.{Words}
 use Rattle.semantics.specs.Check.{Verdict, passes, refused, call_fault}
-use Rattle.semantics.specs.Run.{Answer, refusal, Result, call_by, call}
+use Rattle.semantics.specs.Run.{Answer, Result, call_by, call}
 use Rattle.semantics.proofs.Safety.{spatial_safety, unused_fits}
 use Rattle.stream.specs.Items.{item_room, room_of, PutsItems}
 use Rattle.stream.proofs.Items.{room_both, puts_none, puts_word, puts_then}
