@@ -17,6 +17,7 @@ pub mod Equations
 pub mod Ints
 pub mod Safety
 pub mod Depth
+pub mod Shallow
 pub mod DepthExamples
 pub mod Numbers
 pub mod Starts
