@@ -10,7 +10,7 @@ use lib.ListN.{length, take, drop, get_or, replicate, length-replicate}
 use lib.Seq.{length-take-le}
 use Rattle.semantics.specs.Words.{Words}
 use Rattle.semantics.specs.Check.{Verdict, passes, refused, call_fault}
-use Rattle.semantics.specs.Run.{Answer, Result, call_by, call}
+use Rattle.semantics.specs.Run.{Answer, refusal, Result, call_by, call}
 use Rattle.semantics.proofs.Safety.{spatial_safety, unused_fits}
 use Rattle.stream.specs.Items.{item_room, room_of, PutsItems}
 use Rattle.stream.proofs.Items.{room_both, puts_none, puts_word, puts_then}
@@ -52,6 +52,12 @@ module _ (vs bs es out₀ : List ℕ) (at unused : ℕ) where
       let here : suc n + 1 - 1 ≡ suc n = omega arith in
       let before : suc n - 1 ≡ n = omega arith in
       record { same = omega arith; from = omega arith; until = omega arith; put = rw here (puts_then (rw before at p.put) puts) }
+
+  pub printing_all : {out : List ℕ} {at' : ℕ} {i : ℕ} → Printing out at' i → unused ≤ i → PutsItems (memory_lines unused vs bs es) out₀ at out at'
+  printing_all {out} {at'} {i} p all =
+      let until = p.until in
+      let last : i - 1 ≡ unused - 1 = omega arith in
+      rw last at p.put
 
 -- By the calls of `put_answer` in turn: `put_ending`, `put_bytes`, `unused_after` and `put_memory`.
 pub puts_answer : (a : Answer) (vs bs es : Words) {out : List ℕ} {at : ℕ}

@@ -1,12 +1,12 @@
 -- A whole bare call of a table that passed the check, from what its parts did.
 use Prim.Native.Nat.{ℕ, ◌+◌, ◌-◌, ◌≤◌, ◌<◌}
 use mathlib.Core.Path.{◌≡◌, refl, sym, ap, ◌∙◌}
-use mathlib.Core.List.{◌++◌}
+use mathlib.Core.List.{[], ◌∷◌, ◌++◌}
 use native.Mathlib.Omega.{arith}
 use lib.ListN.{length, take, replicate, set}
 use lib.Seq.{sets}
 use Rattle.semantics.specs.Words.{Words}
-use Rattle.semantics.specs.Table.{variables, count}
+use Rattle.semantics.specs.Table.{variables, commands, count}
 use Rattle.semantics.specs.Registers.{register_count}
 use Rattle.semantics.specs.Check.{passes, refused, check}
 use Rattle.semantics.specs.Check as Check
@@ -15,12 +15,15 @@ use Rattle.semantics.specs.Bare.{call_fault, run, call}
 use Rattle.semantics.proofs.Safety.{begin_inv}
 use Rattle.semantics.proofs.Agreement.{registers_bared, begin_bared}
 use Rattle.layout.proofs.Laws.{or_else_pass, or_else_refuse}
-use Rattle.registers.specs.Blocks.{memory, RegistersSet, RegistersPlaced}
+use Rattle.registers.specs.Blocks.{memory, RegistersSet, RegistersPlaced, AllPlaceable}
+use Rattle.bare_commands.specs.Execution as commands
+use Rattle.bare_commands.specs.Execution.{ended_of}
+use Rattle.bare_commands.specs.declared.Ended.{Ended}
 use Rattle.machine.specs.Run.{CanBegin}
-use Rattle.machine.specs.Bare.{HasBegunBare, ExecutedBare, CalledBare}
+use Rattle.machine.specs.Bare.{bare_answer_of, HasBegunBare, ExecutedBare, CalledBare}
 use Rattle.machine.specs.declared.BareAnswer.{BareAnswer}
 use Rattle.machine.specs.declared.BareAnswer.TheVariants.{Refused}
-use Rattle.machine.proofs.Calls.{rest_fault, unused_fits, has_begun}
+use Rattle.machine.proofs.Calls.{rest_fault, registers_fit, unused_fits, has_begun}
 
 -- ---- the memory at the start
 
@@ -28,6 +31,12 @@ use Rattle.machine.proofs.Calls.{rest_fault, unused_fits, has_begun}
 module _ {vars : ℕ} {inputs registers vs : Words} (x : CanBegin vars inputs registers vs vs vs) {v₁ : Words} (hv : v₁ ≡ sets (set vs 0 0) 1 inputs) {u : ℕ} (hu : u ≡ vars + 1) where
   zeros : Words
   zeros = replicate (length vs) 0
+
+  pub registers_placeable : AllPlaceable registers u v₁
+  unfolding zeros
+  registers_placeable =
+      let f = registers_fit x {b₁ = zeros} {e₁ = zeros} refl refl hv hu in
+      record { table = f.table; list = f.list; first = f.first; room = omega (arith, f.inv.low, f.inv.high); most = f.most }
 
   module _ {u' : ℕ} {v₂ : Words} (placed : RegistersPlaced registers (register_count registers) v₁ u v₂ u') where
     with_bounds : RegistersSet registers (register_count registers) v₁ zeros zeros u v₂ (registers_below registers (register_count registers) (memory v₁ zeros zeros u)).bases
@@ -50,6 +59,9 @@ module _ {vars : ℕ} {inputs registers vs : Words} (x : CanBegin vars inputs re
         }
 
 -- ---- the answer
+
+pub executed_told : {t vs vs' : Words} {u : ℕ} {e : Ended} (r : BareAnswer) → commands.Executed t (vs ∷ []) u e (vs' ∷ []) → bare_answer_of r ≡ ended_of e → ExecutedBare t vs u r vs'
+executed_told {vs' = vs'} r h same = record { is = rw same h.is }
 
 -- A call that is refused.
 bare_refused : (t inputs registers vs : Words) {n p : ℕ} → call_fault t inputs registers (length vs) ≡ refused n p → CalledBare t inputs registers vs (Refused n p) vs

@@ -17,10 +17,12 @@ use Rattle.semantics.proofs.Safety.{Begun, begun, cleared_inv, begin_inv}
 use Rattle.lookups.specs.Lists.{Lists}
 use Rattle.semantics.proofs.Explain.{failure_told}
 use Rattle.steps.specs.Answers.{state_of, check_told}
-use Rattle.layout.specs.Layout.{section_of, layout, layout_by, Stands}
+use Rattle.layout.specs.Layout.{verdict_of, section_of, layout, layout_by, Stands}
 use Rattle.layout.specs.declared.Table.{Table}
 use Rattle.layout.specs.declared.Parsed.TheVariants as parsed
-use Rattle.layout.proofs.Laws.{or_else_pass, or_else_refuse, item_at}
+use Rattle.layout.specs.declared.Verdict as told
+use Rattle.layout.specs.declared.Verdict.TheVariants as the
+use Rattle.layout.proofs.Laws.{or_else_pass, or_else_refuse, told_as, item_at}
 use Rattle.words.proofs.Lists.{front_sets, zeros_from}
 use Rattle.registers.specs.Blocks.{memory, Holds, RegistersSet, Alike, AllFit}
 use Rattle.registers.proofs.Blocks.{registers_alike}
@@ -30,11 +32,12 @@ use Rattle.commands.specs.Execution.{ended_of, Starts}
 use Rattle.steps.specs.declared.FailedCheck.{FailedCheck}
 use Rattle.commands.specs.declared.Ended.{Ended}
 use Rattle.commands.specs.declared.Ended.TheVariants.{Done, Abort, NoRoom}
-use Rattle.machine.specs.Run.{Program, CanBegin, HasBegun}
-use Rattle.machine.specs.Explain.{reason_by, started, ended_because, TellsEnded, Startable, Executed, Watchable, Called}
+use Rattle.machine.specs.Run.{answer_of, Is, Program, CanBegin, HasBegun}
+use Rattle.machine.specs.Explain.{answer_told, reason_by, started, ended_because, TellsEnded, Startable, Executed, Watchable, Called}
 use Rattle.machine.specs.declared.Explained.{Explained}
 use Rattle.machine.specs.declared.Explained.TheVariants.{Refused}
 use Rattle.machine.specs.declared.Explained.TheVariants as the_answer
+use Rattle.machine.specs.declared.Answer.{Answer}
 
 -- ---- what the check answered
 
@@ -70,6 +73,10 @@ module _ (t inputs registers : Words) (values bases ends : ℕ) where
 
   pub registers_judged : passes ≡ arguments_fault t inputs values bases ends → registers_fault t registers values ≡ rest_fault t inputs registers values bases ends
   registers_judged e = sym (or_else_pass _ _ (sym e))
+
+-- `told_as`, in a form that can be searched for.
+pub told_refused : {r : told.Verdict} {v : Verdict} {n p : ℕ} → verdict_of r ≡ v → r ≡ the.Refused n p → refused n p ≡ v
+told_refused e q = told_as e q
 
 -- A call with arguments that are refused is refused.
 pub call_refused : (w : ℕ) (t inputs registers vs bs es : Words) {n p : ℕ} → check t ≡ passes → refused n p ≡ rest_fault t inputs registers (length vs) (length bs) (length es)
@@ -305,10 +312,16 @@ told_executed {t} {e = e} h told =
           rw (told.answer, told.explanation, m.answer, m.values, m.bases, m.ends, ended_explained (count t variables) e m.answer m.tells);
     }
 
+pub told_done : {e : Ended} {u : ℕ} → e ≡ Done u → TellsEnded e (the_answer.Done u)
+told_done q = rw q (record { answer = refl; explanation = refl })
+
 pub told_abort : {e : Ended} {c u r : ℕ} {x : FailedCheck} → e ≡ Abort c u x → r ≡ reason_by x.place x.base x.end
     → TellsEnded e (the_answer.Abort c u (record { node = x.node; place = x.place; words = x.words; base = x.base; end = x.end; reason = r; first = x.block }))
 unfolding reason_of without_bounds
 told_abort q h = rw (q, h) (record { answer = refl; explanation = refl })
+
+pub told_no_room : {e : Ended} {c u : ℕ} → e ≡ NoRoom c u → TellsEnded e (the_answer.NoRoom c u)
+told_no_room q = rw q (record { answer = refl; explanation = refl })
 
 -- ---- a call in which nothing is to be found
 
@@ -316,3 +329,10 @@ told_abort q h = rw (q, h) (record { answer = refl; explanation = refl })
 pub end_watchable : (t inputs registers vs bs es : Words) → Watchable (length vs) t inputs registers vs bs es
 end_watchable t inputs registers vs bs es =
     record { room = λ e. ((begin_inv (begun t inputs registers (length vs) (length bs) (length es) e)).high, omega arith) }
+
+-- Its answer alone is that of the run.
+pub call_answered : {w : ℕ} {t inputs registers vs bs es : Words} {e : Explained} {r : Answer} {vs' bs' es' : Words} → Called w t inputs registers vs bs es e vs' bs' es' → answer_of r ≡ answer_told e
+    → Is (call t inputs registers vs bs es) r vs' bs' es'
+call_answered h same =
+    let all = ap (λ x. x.result) h.is in
+    record { answer = same ∙ ap (λ x. x.answer) all; values = ap (λ x. x.values) all; bases = ap (λ x. x.bases) all; ends = ap (λ x. x.ends) all }

@@ -1,18 +1,21 @@
 -- Laws of the check of a node: after its kind, of its children, and as a whole.
 use Prim.Native.Nat.{ℕ, suc, ◌+◌, ◌<◌, ◌%◌}
-use mathlib.Core.Bool.{true, false}
+use mathlib.Core.Bool.{Bool, true, false}
 use mathlib.Core.Path.{◌≡◌, refl, sym, ◌∙◌, ap}
 use mathlib.Core.List.{[], ◌∷◌, ◌++◌}
 use native.Mathlib.Omega.{arith}
-use borrow.Author.Tests.{ltb-true}
+use native.Mathlib.Decide.{ℕ_discrete}
+use borrow.Author.Tests.{ltb-true, eq-eqb, ne_eqb}
 use lib.Dec.{eqb}
-use lib.ListN.{length, set}
+use lib.ListN.{length, set, length-set}
+use lib.Seq.{get_or-set_same, get_or-set_other}
 use Rattle.semantics.specs.Words.{Words, word}
 use Rattle.semantics.specs.Table.{edition_1, nodes, count, item_place, item, known_type, Kind, field, read, unknown, Sort, neither, sort_of, Operand, operand_a, operand_b, child, children, type_rule, types_below, node_type, node_kind, node_a, node_b, pointed_record, points_to_record, kind_of}
 use Rattle.semantics.specs.Table as table
-use Rattle.semantics.specs.Check.{Verdict, passes, refused, ◌or_else◌, require, each, same_sort, is_child, operand_fault, types_fit, node_fault}
+use Rattle.semantics.specs.Check.{Verdict, passes, refused, ◌or_else◌, require, each, same_sort, is_child, operand_fault, types_fit, node_fault, occurrences}
 use Rattle.semantics.proofs.Passed.{or_else_passes, require_passes, each_passes}
 use Rattle.semantics.proofs.Trees.{is_child_true, types_known}
+use Rattle.layout.specs.Layout.{verdict_of}
 use Rattle.layout.specs.Lists.{by_verdict}
 use Rattle.layout.specs.Notes.{bits, note}
 use Rattle.layout.specs.declared.Verdict as answer
@@ -24,6 +27,13 @@ use Rattle.nodes.specs.declared.Typed.{Typed}
 use Rattle.nodes.specs.declared.Typed.TheVariants.{Is, Refused}
 use Rattle.nodes.proofs.Lookups.{few_pointers}
 use Rattle.nodes.proofs.Sorts.{child_known, child_type, child_same, read_bits}
+
+-- What an answer of a verdict's form says of the verdict.
+pub verdict_refuses : {r : answer.Verdict} {v : Verdict} {n p : ℕ} → verdict_of r ≡ v → r ≡ the.Refused n p → v ≡ refused n p
+verdict_refuses e q = sym e ∙ ap verdict_of q
+
+pub verdict_passes : {r : answer.Verdict} {v : Verdict} → verdict_of r ≡ v → r ≡ the.Passes → v ≡ passes
+verdict_passes e q = sym e ∙ ap verdict_of q
 
 pub both_pass : {u v : Verdict} → u ≡ passes → v ≡ passes → u or_else v ≡ passes
 unfolding ◌or_else◌
@@ -203,3 +213,47 @@ module _ {t notes : Words} {n place : ℕ} (h : Reached t notes n place) where
   pub noted_read : {x : Typed} {r : answer.Verdict} {notes' used used' : Words} → kind_of (word t place) ≡ read → x ≡ typed_kind t n read (word t (place + 1)) (word t (place + 2))
       → Told x (read_bit (word notes (word t (place + 1)))) n (word t (place + 1) ∷ []) r notes notes' used used' → Noted t n r notes notes' used used'
   noted_read e q told = noted read e refl q told refl (λ p. let c = child_a read e refl q table.place refl p in read_bits h.noted_to (word t (place + 1)) c.0 (sym c.1))
+
+pub counted_one : (used : Words) (x i v : ℕ) → i ≡ x → x < length used → v ≡ word used i + 1 → Counted used (set used i v) (x ∷ [])
+counted_one used x i v e h q = record { all = length-set used i v; more = λ j. go j (ℕ_discrete j i) }
+  where
+    go : (j : ℕ) → Dec (j ≡ i) → word (set used i v) j ≡ word used j + occurrences j (x ∷ [])
+    go j (yes s) = rw (s, eq-eqb x i (sym e)) (get_or-set_same used i v 0 (omega arith) ∙ q)
+    go j (no s) = rw (ne_eqb x j (λ z. s (sym z ∙ sym e))) (get_or-set_other used i j v 0 s ∙ omega arith)
+
+pub counted_both : (used used₁ used₂ : Words) (x y : ℕ) → Counted used used₁ (x ∷ []) → Counted used₁ used₂ (y ∷ []) → Counted used used₂ (x ∷ y ∷ [])
+counted_both used used₁ used₂ x y p q = record { all = q.all ∙ p.all; more = λ i. omega (arith, p.more i, q.more i) }
+
+-- After a use of x, one of y can be counted.
+pub countable_next : {used used' : Words} {x y : ℕ} → CountableBoth used x y → Counted used used' (x ∷ []) → Countable used' y
+countable_next {used} {used'} {x} {y} h more = record { room = more.all ∙ h.first.room; inside = h.inside; few = few (eqb x y) (more.more y) }
+  where
+    few : (b : Bool) → word used' y ≡ word used y + ((if b then 1 else 0) + 0) → word used' y < 4096
+    few true e = omega (arith, h.few)
+    few false e = omega (arith, h.few)
+
+-- ---- telling an answer
+
+module _ {x : Typed} {mark n : ℕ} where
+  pub told_refused : {r p : ℕ} {l notes used : Words} → x ≡ Refused r p → Told x mark n l (the.Refused r p) notes notes used used
+  told_refused {used = used} e = record { verdict = rw e; noted = rw e; counted = rw e (counted_none used) }
+
+  -- What was told before uses are counted stays so.
+  pub told_more : {v : answer.Verdict} {l l' notes notes' used used₁ used₂ used₃ : Words} → Told x mark n l v notes notes' used used₁ → v ≡ the.Passes → Counted used₂ used₃ l'
+      → Told x mark n l' the.Passes notes notes' used₂ used₃
+  told_more t e more =
+      let passed = ap verdict_of (sym e) ∙ t.verdict in
+      record { verdict = passed; noted = t.noted; counted = rw (← passed) more }
+
+  pub told_is : {v ty : ℕ} {notes used : Words} → x ≡ Is ty → v ≡ ty + mark → Told x mark n [] the.Passes notes (set notes n v) used used
+  told_is {used = used} e q = record { verdict = rw e; noted = rw (e, q); counted = rw e (counted_none used) }
+
+  pub told_other : {r p : ℕ} {v : answer.Verdict} {l l' notes notes' used used' : Words} → Told x mark n l v notes notes' used used' → v ≡ the.Refused r p
+      → Told x mark n l' (the.Refused r p) notes notes' used used'
+  told_other t e =
+      let refuses = ap verdict_of (sym e) ∙ t.verdict in
+      record { verdict = refuses; noted = t.noted; counted = rw (← refuses) (rw (← refuses) at t.counted) }
+
+  -- The children are counted where the answer is a type.
+  pub told_counted : {v : answer.Verdict} {l notes notes' used used' : Words} → Told x mark n l v notes notes' used used' → typed_verdict x ≡ passes → Counted used used' l
+  told_counted t e = rw e at t.counted

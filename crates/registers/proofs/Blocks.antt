@@ -20,6 +20,9 @@ use Rattle.registers.specs.Blocks.{memory, Holds, RegisterSet, RegistersSet, Fit
 -- ---- one register
 
 module _ {l : Words} {p u w : ℕ} {vs bs es : Words} (named : w ≡ word l p) where
+  pub no_words : word l (p + 1) ≡ 0 → RegisterSet l p vs bs es u (set vs (1 + w) 0) (set bs (1 + w) 0) (set es (1 + w) 0) u
+  no_words none = record { holds = rw (named, none) (record { values = refl; bases = refl; ends = refl; unused = refl }) }
+
   pub some_words : {a k : ℕ} {vs₁ : Words} → ((w : ℕ) → u ≤ w → (word bs w ≡ 0) × (word es w ≡ 0)) → (word l (p + 1) ≡ 0 → ⊥) → vs₁ ≡ sets vs a (take k (drop (p + 2) l)) → a ≡ u → k ≡ word l (p + 1)
       → RegisterSet l p vs bs es u (set vs₁ (1 + w) u) (set bs (1 + w) u) (set es (1 + w) (u + word l (p + 1))) (u + word l (p + 1))
   some_words clear some h ea ek = record { holds = rw (named, h, ea, ek) (go (word l (p + 1)) some) }

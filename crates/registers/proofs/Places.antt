@@ -1,16 +1,34 @@
 -- The memory that registers leave without bounds, register by register.
-use Prim.Native.Nat.{ℕ, ◌+◌, ◌<◌}
+use Prim.Native.Nat.{ℕ, zero, suc, ◌+◌, ◌<◌}
 use mathlib.Core.Path.{◌≡◌, refl, ap, ◌∙◌}
 use mathlib.Core.List.{[]}
 use native.Mathlib.Omega.{arith}
 use native.Mathlib.Numerals.{add-one}
-use lib.ListN.{length}
-use Rattle.semantics.specs.Words.{Words, sum_below}
+use lib.ListN.{length, take, drop, set}
+use lib.Seq.{sets}
+use Rattle.semantics.specs.Words.{Words, word, sum_below}
 use Rattle.semantics.specs.Registers.{register_count, register_place, register_length, register_start}
 use Rattle.semantics.specs.Bare as Bare
 use Rattle.semantics.proofs.Registers.{register_inside, registers_unused}
 use Rattle.semantics.proofs.Agreement.{registers_bared}
-use Rattle.registers.specs.Blocks.{memory, RegisterPlaced, RegistersPlaced, Placeable, AllPlaceable}
+use Rattle.registers.specs.Blocks.{memory, bare_memory, RegisterPlaced, RegistersPlaced, Placeable, AllPlaceable}
+
+-- ---- one register
+
+module _ {l : Words} {p u w : ℕ} {vs : Words} (named : w ≡ word l p) where
+  pub no_words_placed : word l (p + 1) ≡ 0 → RegisterPlaced l p vs u (set vs (1 + w) 0) u
+  no_words_placed none = record { is = rw (named, none) }
+
+  pub some_words_placed : {a k : ℕ} {vs₁ : Words} → (word l (p + 1) ≡ 0 → ⊥) → vs₁ ≡ sets vs a (take k (drop (p + 2) l)) → a ≡ u → k ≡ word l (p + 1)
+      → RegisterPlaced l p vs u (set vs₁ (1 + w) u) (u + word l (p + 1))
+  some_words_placed some h ea ek = record { is = rw (named, h, ea, ek) (go (word l (p + 1)) some) }
+    where
+      go : (n : ℕ) → (n ≡ 0 → ⊥)
+          → bare_memory (set (sets vs u (take n (drop (p + 2) l))) (1 + word l p) u) (u + n) ≡ Bare.with_register (word l p) n (take n (drop (p + 2) l)) (bare_memory vs u)
+      go zero q = absurd (q refl)
+      go (suc n) q = refl
+
+-- ---- the registers in turn
 
 pub none_placed : (l vs : Words) (u : ℕ) → RegistersPlaced l 0 vs u vs u
 unfolding Bare.registers_below

@@ -4,7 +4,7 @@ use borrow.Author.Tests.{lt-leb}
 use Rattle.words.specs.Columns.{column}
 use Rattle.semantics.specs.Words.{Words, word}
 use Rattle.semantics.specs.Table.{is_pointer}
-use Rattle.semantics.specs.Rules.{Datum, unbounded, Location, Event, loaded, stored, allocated, tested, State, Outcome, ok, bind, words_left, enough_left, check_of, checked, pointed, deref_step, field_step, touchable, contents, read_step, takes_right, bounds_from, sum_step, cast_step, malloc_step, with_copy, copy_step}
+use Rattle.semantics.specs.Rules.{Datum, unbounded, Location, variable_location, Event, loaded, stored, allocated, tested, State, Outcome, ok, bind, words_left, enough_left, check_of, checked, pointed, deref_step, field_step, touchable, contents, read_step, takes_right, bounds_from, sum_step, cast_step, malloc_step, with_copy, copy_step}
 use Rattle.semantics.specs.Explain.{block_start}
 use Rattle.semantics.proofs.Tests.{words_are_left, left_inside, check_enough}
 use Rattle.semantics.proofs.Invariant.{Inv, permitted_used, LocationOk, Good, good_ok}
@@ -22,6 +22,14 @@ pub inside : (b e w : ℕ) {n k : ℕ} → n ≡ words_left b e w → 1 ≤ k �
 inside b e w h some enough = left_inside (rw (sym h) at (words_are_left b e w)) some enough
 
 -- ---- results without a step
+
+pub given_number : {x r : ℕ} {s s' : Words} → Bounded 0 0 s s' → r ≡ x → r < failed → Given DatumIs (unbounded x) s r s'
+given_number h e small =
+    record { room = h.room; is = record { value = sym e; base = sym h.base; end = sym h.end }; small = small; kept = h.kept }
+
+pub given_variable : {i x r : ℕ} {s s' : Words} → Bounded x (x + 1) s s' → x ≡ i + 1 → r ≡ x → r < failed → Given LocationIs (variable_location i) s r s'
+given_variable h hx hr small =
+    record { room = h.room; is = record { at = omega arith; base = omega (arith, h.base); end = omega (arith, h.end) }; small = small; kept = h.kept }
 
 -- What stands at word w of the lists.
 abbrev Fetched : ℕ → ℕ → List Words → Words → ℕ → Words → Type 0
@@ -219,6 +227,10 @@ room_for (past_limit small over fits room hu hl hf) watch = fits
 
 raised_past : {b e u top : ℕ} {s₁ s₂ s₃ : Words} → Bounded b e s₁ s₂ → Raised u s₂ s₃ → u ≡ top → RaisedTo top s₁ s₃
 raised_past set up hu = record { unused = up.unused ∙ hu; limit = up.limit ∙ set.kept.limit; found = up.found ∙ set.kept.found }
+
+pub room_small : {top len : ℕ} {s s₁ : Words} → Reserved top len s s₁ true → (top < failed) × (length s ≡ slots → length s₁ ≡ slots)
+room_small (below_limit small fits same) = (small, λ room. rw same room)
+room_small (past_limit small over fits room hu hl hf) = (small, λ _. room)
 
 module _ {len v : ℕ} {m : List Words} {s : Words} (all : length (column m 0) ≡ len) (under : v < failed) (some : v ≡ 0 → ⊥) where
   pub malloc_some : {b e u r : ℕ} {s₁ s₂ s₃ : Words} → Reserved (word s unused_slot + v) len s s₁ true → Bounded b e s₁ s₂ → Raised u s₂ s₃ → b ≡ word s unused_slot → e ≡ word s unused_slot + v

@@ -35,8 +35,17 @@ module _ (bytes : List ℕ) (from b : ℕ) {to : ℕ} (e : to ≡ from + before 
 -- ---- the next part
 
 module _ {buffer : List ℕ} {last : Part} {b : ℕ} where
+  -- The code's part is `&buffer[0..filled]`, of filled - 0 bytes.
+  pub next_left : {r : Part} → last.filled ≤ length buffer → last.next < last.filled
+      → (r ≡ part_of (take (last.filled - 0) buffer) last.next b) × (r.from ≤ r.to) × (r.to ≤ length (take (last.filled - 0) buffer))
+      → NextPart buffer last b buffer r
+  next_left {r} h k p =
+      let all : last.filled - 0 ≡ last.filled = omega arith in
+      let l = length-take-le (last.filled - 0) buffer (omega arith) in
+      let to = p.2 in
+      record { left = λ h' k'. (refl, rw all at p.0); read = λ deny. absurd (deny h k); bounds = (p.1, omega arith) }
+
   module _ {buffer' : List ℕ} (deny : last.filled ≤ length buffer → last.next < last.filled → ⊥) where
-    -- The code's part is `&buffer[0..n]`, of n - 0 bytes.
     pub next_read : {r : Part} (n : ℕ) → n ≤ length buffer' → (n ≡ 0 → ⊥)
         → (r ≡ part_of (take (n - 0) buffer') 0 b) × (r.from ≤ r.to) × (r.to ≤ length (take (n - 0) buffer'))
         → NextPart buffer last b buffer' r

@@ -1,5 +1,6 @@
 -- Laws of notes to which the edition is added.
 use Prim.Native.Nat.{ℕ, ◌+◌, ◌≤◌, ◌<◌}
+use mathlib.Core.Bool.{Bool, true, false}
 use mathlib.Core.Path.{◌≡◌, refl, ap, ◌∙◌}
 use native.Mathlib.Omega.{arith}
 use borrow.Author.Tests.{ltb-true}
@@ -9,7 +10,7 @@ use Rattle.semantics.specs.Table.{Edition, edition_1, edition_2, edition, pointe
 use Rattle.semantics.specs.Check.{Verdict, passes, refused, ◌or_else◌, check}
 use Rattle.semantics.proofs.Passed.{passed, section_ok}
 use Rattle.semantics.proofs.Trees.{types_known}
-use Rattle.layout.specs.Layout.{sections_fault}
+use Rattle.layout.specs.Layout.{edition_by, sections_fault}
 use Rattle.layout.specs.Lists.{by_verdict}
 use Rattle.layout.specs.Types.{types_fault}
 use Rattle.layout.specs.declared.Parsed.{Parsed}
@@ -61,3 +62,11 @@ module _ {t first sizes offsets notes : Words} (pass : check t ≡ passes) (left
         size_is = left.size_is;
         offset_is = left.offset_is;
       }
+
+-- By whether there is a mark.
+module _ (n : ℕ) (l : Words) {e : Edition} {b : Bool} (by : edition_by b ≡ e) where
+  pub noted_marked : {l' : Words} → b ≡ true → l' ≡ edition_noted edition_2 n l → l' ≡ edition_noted e n l
+  noted_marked q h = rw (← by, q) h
+
+  pub noted_unmarked : b ≡ false → l ≡ edition_noted e n l
+  noted_unmarked q = rw (← by, q)

@@ -7,12 +7,12 @@ use mathlib.Core.List.{List, [], ◌∷◌, ◌++◌, append_assoc, append-nil}
 use native.Mathlib.Omega.{arith}
 use native.Mathlib.Numerals.{add-one}
 use native.Mathlib.Nat.{pow-suc}
-use borrow.Author.Tests.{le-ltb, ltb-true, leb-true, ne_eqb}
+use borrow.Author.Tests.{lt-ltb, le-ltb, ltb-true, leb-true, ne_eqb}
 use lib.Dec.{leb, ltb, eqb}
-use lib.ListN.{length, drop, set, get_or, length-set, drop_of_length-le}
-use lib.Seq.{drop-cons, drop-set-lt, get_or-set_same, paste, paste-suc}
+use lib.ListN.{length, take, drop, set, get_or, length-set, length-drop, drop_of_length-le}
+use lib.Seq.{drop-cons, drop-set-lt, get_or-set_same, paste, paste-zero, paste-suc, length-paste, take_all}
 use Rattle.text.specs.Numbers.{limit, holds, separator, digit, digits, value_from, value, number, ◌then◌, numbers_after, numbers}
-use Rattle.text.specs.Decimal.{last_digits, decimal}
+use Rattle.text.specs.Decimal.{last_digits, decimal, Puts, Written}
 use Rattle.text.proofs.Numbers.{digits_one, value_one, number_good, after_separator, after_other}
 use Rattle.text.proofs.Scanning.{is_digit}
 
@@ -59,7 +59,26 @@ writing_more (suc i) h large b e = rw (add_sub i) (writing_suc h large b e)
     add_sub : (n : ℕ) → suc n - 1 ≡ n
     add_sub n = omega arith
 
+pub written : {x : ℕ} {list : List ℕ} {i y : ℕ} → Writing x list i y → y < 10 → Written x list i
+written {x} {list} {i} {y} h less = record { long = h.long; start = h.start; digits = rw (lt-ltb y 10 less) at h.rest }
+
+-- More digits are to come while y has two.
+pub writing_left : {x : ℕ} {list : List ℕ} {y : ℕ} (i : ℕ) → Writing x list i y → 10 ≤ y → 1 ≤ i
+writing_left zero h large = absurd (omega (arith, h.small))
+writing_left (suc i) h large = omega arith
+
 -- ---- bytes put into a list
+
+pub puts_digits : {x : ℕ} {list : List ℕ} {i : ℕ} → Written x list i → (out : List ℕ) (at : ℕ) → at + 20 ≤ length out → {bytes out' : List ℕ} {r : ℕ}
+    → bytes ≡ take (20 - i) (drop i list) → Puts (length bytes) bytes out at out' r → Puts 20 (decimal x) out at out' r
+puts_digits {x} {list} {i} h out at room {bytes} {out'} {r} e puts =
+    let all : bytes ≡ drop i list = e ∙ take_all (20 - i) (drop i list) (rw (length-drop i list, h.long) (omega arith)) in
+    let same : bytes ≡ decimal x = all ∙ h.digits in
+    let count : length bytes ≤ 20 = rw (all, length-drop i list, h.long) (omega arith) in
+    record { fits = λ k. rw same at (puts.fits (omega arith)); full = λ k. absurd (omega arith) }
+
+pub puts_none : (room : ℕ) (bytes out : List ℕ) (at : ℕ) → length out < at + room → Puts room bytes out at out at
+puts_none room bytes out at h = record { fits = λ k. absurd (omega arith); full = λ k. (refl, refl) }
 
 -- The first i bytes are copied.
 pub record Copying (bytes out₀ : List ℕ) (at : ℕ) (out : List ℕ) (i : ℕ) : Type 0 where
@@ -67,12 +86,26 @@ pub record Copying (bytes out₀ : List ℕ) (at : ℕ) (out : List ℕ) (i : �
   pub done : i ≤ length bytes
   pub copied : out ≡ paste out₀ at bytes i
 
+pub copying_none : (bytes out : List ℕ) (at : ℕ) → at + length bytes ≤ length out → Copying bytes out at out 0
+copying_none bytes out at h = record { room = h; done = omega arith; copied = paste-zero out at bytes }
+
+pub copying_length : {bytes out₀ : List ℕ} {at : ℕ} {out : List ℕ} {i : ℕ} → Copying bytes out₀ at out i → length out ≡ length out₀
+copying_length {bytes} {out₀} {at} {out} {i} h = ap length h.copied ∙ length-paste out₀ at bytes i (omega arith) h.done
+
 pub copying_more : {bytes out₀ : List ℕ} {at : ℕ} {out : List ℕ} {i : ℕ} → Copying bytes out₀ at out i → i < length bytes → Copying bytes out₀ at (set out (at + i) (get_or bytes i 0)) (i + 1)
 copying_more {bytes} {out₀} {at} {out} {i} h inside =
     record {
       room = h.room;
       done = omega arith;
       copied = ap (λ l. set l (at + i) (get_or bytes i 0)) h.copied ∙ paste-suc out₀ at bytes i 0 (omega arith) inside ∙ ap (paste out₀ at bytes) (sym (add-one i));
+    }
+
+pub copying_all : {bytes out₀ : List ℕ} {at : ℕ} {out : List ℕ} {i : ℕ} → Copying bytes out₀ at out i → length bytes ≤ i → Puts (length bytes) bytes out₀ at out (at + length bytes)
+copying_all {bytes} {out₀} {at} {out} {i} h all =
+    let e : i ≡ length bytes = omega arith in
+    record {
+      fits = λ k. (h.copied ∙ ap (paste out₀ at bytes) e ∙ rw (take_all (length bytes) bytes (omega arith)), refl);
+      full = λ k. absurd (omega arith);
     }
 
 -- ---- digits read back

@@ -15,13 +15,14 @@ use Rattle.semantics.specs.Words.{Words}
 use Rattle.semantics.specs.Table.{nodes, variables, count_place, count, item_place, item}
 use Rattle.semantics.specs.Run.{refusal, ending, done, abort, out_of_memory}
 use Rattle.semantics.specs.Explain.{Cause}
+use Rattle.semantics.proofs.Registers.{Whole}
 use Rattle.machine.specs.Explain.{cause_told}
 use Rattle.machine.specs.declared.Cause as told
 use Rattle.machine.specs.declared.Explained.{Explained}
 use Rattle.machine.specs.declared.Explained.TheVariants.{Refused, Done, Abort, NoRoom}
 use Rattle.why.specs.Ascii.{ascii}
 use Rattle.why.specs.Owners.{owner_of}
-use Rattle.why.specs.Told.{text, owner_text, node_text, wanted_text, bounds_text, reason_text, cause_line, ended_line, not_aborted_lines, told_lines}
+use Rattle.why.specs.Told.{text, owner_text, node_text, wanted_text, bounds_text, reason_text, cause_line, ended_line, not_aborted_lines, told_lines, Walkable}
 use Rattle.why.specs.declared.Owner.{Owner}
 use Rattle.why.specs.declared.Owner.TheVariants.{Variable, Register, Block}
 
@@ -89,3 +90,6 @@ module _ {e : Explained} (t l : Words) where
   pub noroom_lines : {c u : ℕ} → e ≡ NoRoom c u → not_aborted_lines (ending (out_of_memory c) u) ≡ told_lines t l e
   unfolding told_lines
   noroom_lines q = rw q
+
+pub list_whole : {l : Words} {e : Explained} {c u : ℕ} {x : told.Cause} → Walkable l e → e ≡ Abort c u x → Whole l
+list_whole h q = rw q at h
