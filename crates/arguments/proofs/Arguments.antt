@@ -1,16 +1,15 @@
 -- Refusals 10 and 11.
 use Prim.Native.Nat.{ℕ, ◌+◌}
-use mathlib.Core.Bool.{Bool, true, false, ◌&&◌, ◌||◌}
-use mathlib.Core.Path.{◌≡◌, sym, ◌∙◌}
+use mathlib.Core.Bool.{Bool, ◌&&◌, ◌||◌}
+use mathlib.Core.Path.{◌≡◌, sym}
 use native.Mathlib.Omega.{arith}
-use borrow.Author.Tests.{eq-eqb, ne_eqb}
 use lib.Dec.{leb, ltb, eqb}
 use lib.ListN.{length}
 use Rattle.semantics.specs.Words.{Words, word}
 use Rattle.semantics.specs.Table.{count}
-use Rattle.semantics.specs.Check.{passes, refused, each, lengths_fit, input_fits, input_fault, arguments_fault}
+use Rattle.semantics.specs.Check.{require, ◌or_else◌, each, lengths_fit, input_fits, input_fault, arguments_fault}
 use Rattle.layout.specs.Layout.{Stands}
-use Rattle.layout.proofs.Laws.{require_holds, require_refuses, or_else_pass, or_else_refuse, item_at}
+use Rattle.layout.proofs.Laws.{item_at}
 use Rattle.layout.specs.declared.Section.{Section}
 
 -- ---- an input
@@ -20,13 +19,10 @@ module _ (t inputs : Words) {l : Section} (h : Stands t 3 l) (i : ℕ) {p : ℕ}
   unfolding input_fits
   same_input = rw (item_at h i 0 p (omega arith)) (sym tested)
 
-  pub input_passes : f ≡ true → input_fault t inputs i ≡ passes
+  -- What is required of an input is its part of the definition.
+  pub input_by : require f 11 i ≡ input_fault t inputs i
   unfolding input_fault
-  input_passes q = require_holds (input_fits t inputs i) 11 i (same_input ∙ q)
-
-  pub input_refused : f ≡ false → input_fault t inputs i ≡ refused 11 i
-  unfolding input_fault
-  input_refused q = require_refuses (input_fits t inputs i) 11 i (same_input ∙ q)
+  input_by = rw same_input
 
 -- ---- the arguments of a call
 
@@ -36,21 +32,7 @@ module _ (t inputs : Words) (values bases ends : ℕ) {n : ℕ} (total : n ≡ c
   unfolding lengths_fit
   same_lengths = rw (← total) (sym tested)
 
-  pub lengths_refused : f ≡ false → refused 10 0 ≡ arguments_fault t inputs values bases ends
+  -- What is required in turn is the definition.
+  pub arguments_by : require f 10 0 or_else require (eqb (length inputs) n) 11 n or_else each (count t 3) (input_fault t inputs) ≡ arguments_fault t inputs values bases ends
   unfolding arguments_fault
-  lengths_refused q = sym (or_else_refuse _ _ (require_refuses (lengths_fit t values bases ends) 10 0 (same_lengths ∙ q)))
-
-  pub count_refused : f ≡ true → (length inputs ≡ n → ⊥) → refused 11 n ≡ arguments_fault t inputs values bases ends
-  unfolding arguments_fault
-  count_refused q other =
-      sym
-      (or_else_pass _ _ (require_holds (lengths_fit t values bases ends) 10 0 (same_lengths ∙ q))
-      ∙ or_else_refuse _ _ (require_refuses (eqb (length inputs) (count t 3)) 11 (count t 3) (ne_eqb (length inputs) (count t 3) (λ z. other (z ∙ sym total)))
-      ∙ rw (← total)))
-
-  pub inputs_judged : f ≡ true → length inputs ≡ n → each (count t 3) (input_fault t inputs) ≡ arguments_fault t inputs values bases ends
-  unfolding arguments_fault
-  inputs_judged q same =
-      sym
-      (or_else_pass _ _ (require_holds (lengths_fit t values bases ends) 10 0 (same_lengths ∙ q))
-      ∙ or_else_pass _ _ (require_holds (eqb (length inputs) (count t 3)) 11 (count t 3) (eq-eqb (length inputs) (count t 3) (same ∙ total))))
+  arguments_by = rw (same_lengths, total)

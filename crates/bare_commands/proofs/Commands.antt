@@ -1,66 +1,70 @@
 -- What a command answers, from what its place, its value and its store did.
-use Prim.Native.Nat.{ℕ, ◌≤◌, ◌<◌}
-use mathlib.Core.Path.{◌≡◌, ◌∙◌}
-use mathlib.Core.List.{List}
+use Prim.Native.Nat.{ℕ, ◌<◌}
+use mathlib.Core.Path.{◌≡◌, refl, ap, ◌∙◌}
 use native.Mathlib.Omega.{arith}
 use lib.ListN.{length}
-use Rattle.words.specs.Columns.{column}
+use Rattle.std.specs.Prelude.{Result, Ok, Err, ⊤}
+use Rattle.std.specs.Result.{IsErrAnd}
+use Rattle.std.proofs.lemmas.Result.{err_from_is_err_and}
 use Rattle.semantics.specs.Words.{Words}
-use Rattle.semantics.specs.Syntax.{value_of}
+use Rattle.semantics.specs.Syntax.{place_of, value_of}
 use Rattle.semantics.specs.Bare.{State, Outcome, bind, value_at, assign_step, assign}
-use Rattle.bare_steps.specs.Answers.{full, state_of, Answers, answers_ok, answers_full, answers_stuck, NumberIs, Assigns}
+use Rattle.lookups.specs.declared.Lists.{Lists}
+use Rattle.lookups.specs.Nodes.{CommandNodes}
+use Rattle.bare_steps.specs.declared.Halt.{Halt}
+use Rattle.bare_steps.specs.declared.Halt.TheVariants.{NoRoom, Stuck}
+use Rattle.bare_steps.specs.Answers.{outcome_of, Tells, Assigns}
 use Rattle.bare_evaluator.specs.Result.{PlaceReady, ValueReady, PlaceAnswered, ValueAnswered}
 use Rattle.bare_evaluator.proofs.Evaluation.{ready_after}
 use Rattle.bare_commands.specs.Command.{CommandReady, CommandAnswered}
 
-pub place_first : {l m : List Words} {p v : ℕ} → CommandReady l m p v → PlaceReady l m p
+pub place_first : {l : Lists} {s : State} {p v : ℕ} → CommandReady l s p v → PlaceReady l s p
 place_first h = let k = h.nodes_are in record { table = h.table; lists = k.lists_of; node = k.place_node; room = tt; state = h.state; tree = k.place_tree }
 
--- An outcome that ended is passed on; one that did not goes on from its number.
-ended_on : {A : Type 0} {Is : A → ℕ → Type 0} {m : List Words} {u r : ℕ} {o : Outcome ℕ} (f : ℕ → State → Outcome A) → full ≤ r → Answers NumberIs m u r o → Answers Is m u r (bind o f)
-ended_on f over (answers_ok x e small) = absurd (omega arith)
-ended_on f over (answers_full e) = answers_full e
-ended_on f over (answers_stuck e) = answers_stuck e
+-- What a `?` passes on is how the evaluation ended.
+is_passed : {h : Halt} (z : Result ⊤ Halt) → IsErrAnd z (λ y. y ≡ h) → z ≡ Err h
+is_passed z passed = let k = err_from_is_err_and z passed in k.1 ∙ ap Err k.2
 
-goes_on : {A : Type 0} {Is : A → ℕ → Type 0} {m m' : List Words} {u u' v r : ℕ} {o : Outcome ℕ} (f : ℕ → State → Outcome A) → v < full → Answers NumberIs m u v o → Answers Is m' u' r (f v (state_of m u))
-    → Answers Is m' u' r (bind o f)
-goes_on f under (answers_ok x e small) next = rw e next
-goes_on f under (answers_full e) next = absurd (omega arith)
-goes_on f under (answers_stuck e) next = absurd (omega arith)
+-- An evaluation that ended is passed on.
+stops : {A : Type 0} (h : Halt) (f : ℕ → State → Outcome A) (s : State) → bind (outcome_of {A = ℕ} (Err h) s) f ≡ outcome_of {A = A} (Err h) s
+stops NoRoom f s = refl
+stops Stuck f s = refl
 
-module _ {l m m₁ : List Words} {p v u at u₁ : ℕ} (place : PlaceAnswered l m p u at m₁ u₁) where
-  pub place_ended : full ≤ at → CommandAnswered l m p v u at m₁ u₁
+module _ {l : Lists} {s s₁ : State} {p v at : ℕ} (place : PlaceAnswered l s p at s₁) where
+  pub place_ended : {h : Halt} {z : Result ⊤ Halt} → Tells at (Err h) → IsErrAnd z (λ y. y ≡ h) → CommandAnswered l s p v z s₁
   unfolding assign
-  place_ended over =
-      record { long = place.long; meets = λ t vars room k. ended_on (λ w s. bind (value_at (value_of t v) s) (assign_step w)) over (place.meets t k.lists_of k.place_node vars room k.place_tree) }
+  place_ended {h} {z} told passed =
+      record {
+        long = place.long;
+        meets = λ t vars room k.
+            rw (is_passed z passed, told.each s₁ _ (place.meets t k.lists_of k.place_node vars room k.place_tree)) (stops h _ s₁);
+      }
 
-  pub value_next : CommandReady l m p v → ValueReady l m₁ v
+  pub value_next : CommandReady l s p v → ValueReady l s₁ v
   unfolding ready_after
   value_next h =
       let k = h.nodes_are in
       record { table = h.table; lists = k.lists_of; node = k.value_node; room = tt; state = ready_after h.state place.long; tree = k.value_tree }
 
-  module _ {m₂ : List Words} {r u₂ : ℕ} (under : at < full) (value : ValueAnswered l m₁ v u₁ r m₂ u₂) where
-    pub value_ended : full ≤ r → CommandAnswered l m p v u r m₂ u₂
+  module _ {x r : ℕ} {s₂ : State} (told : Tells at (Ok x)) (value : ValueAnswered l s₁ v r s₂) where
+    -- The command goes on from the place that was worked out.
+    placed : (t : Words) (vars : ℕ) → vars < length s.values → CommandNodes t l p v vars → assign (place_of t p) (value_of t v) s ≡ bind (value_at (value_of t v) s₁) (assign_step x)
     unfolding assign
-    value_ended over =
+    placed t vars room k = rw (told.each s₁ _ (place.meets t k.lists_of k.place_node vars room k.place_tree))
+
+    pub value_ended : {h : Halt} {z : Result ⊤ Halt} → Tells r (Err h) → IsErrAnd z (λ y. y ≡ h) → CommandAnswered l s p v z s₂
+    value_ended {h} {z} ended passed =
         record {
           long = value.long ∙ place.long;
           meets = λ t vars room k.
-              goes_on (λ w s. bind (value_at (value_of t v) s) (assign_step w)) under (place.meets t k.lists_of k.place_node vars room k.place_tree)
-              (ended_on (assign_step at) over (value.meets t k.lists_of k.value_node vars (omega (arith, place.long)) k.value_tree));
+              placed t vars room k
+              ∙ rw (is_passed z passed, ended.each s₂ _ (value.meets t k.lists_of k.value_node vars (omega (arith, place.long)) k.value_tree)) (stops h (assign_step x) s₂);
         }
 
-    pub command_done : {m₃ : List Words} {x y : ℕ} → r < full → x ≡ r → Assigns at x m₂ y m₃ → CommandAnswered l m p v u y m₃ u₂
-    unfolding assign
-    command_done small ex stored =
+    pub command_done : {y : ℕ} {z : Result ⊤ Halt} {s₃ : State} → Tells r (Ok y) → Assigns x y s₂ z s₃ → CommandAnswered l s p v z s₃
+    command_done done stored =
         record {
           long = stored.long ∙ value.long ∙ place.long;
           meets = λ t vars room k.
-              goes_on (λ w s. bind (value_at (value_of t v) s) (assign_step w)) under (place.meets t k.lists_of k.place_node vars room k.place_tree)
-              (goes_on (assign_step at) small (value.meets t k.lists_of k.value_node vars (omega (arith, place.long)) k.value_tree) (rw ex at (stored.meets u₂)));
+              placed t vars room k ∙ rw (done.each s₂ _ (value.meets t k.lists_of k.value_node vars (omega (arith, place.long)) k.value_tree)) stored.meets;
         }
-
-    -- The memory that the store is made in has at most as many words as the one before.
-    pub few_words : CommandReady l m p v → length (column m₂ 0) ≤ 65536
-    few_words h = omega (arith, h.state.most, value.long, place.long)

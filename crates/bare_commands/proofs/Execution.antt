@@ -1,30 +1,32 @@
 -- The commands in turn: what the loop has done is what the rules say.
 use Prim.Native.Nat.{ℕ, zero, suc, ◌+◌, ◌*◌, ◌≤◌, ◌<◌}
 use mathlib.Core.Path.{◌≡◌, refl, ◌∙◌}
-use mathlib.Core.List.{List}
 use native.Mathlib.Omega.{arith}
 use native.Mathlib.Numerals.{add-one}
 use native.Mathlib.Decide.{ℕ_discrete}
 use lib.ListN.{length}
-use Rattle.words.specs.Columns.{column}
+use Rattle.std.specs.Prelude.{Result, Ok, Err, ⊤}
 use Rattle.semantics.specs.Words.{Words, word}
 use Rattle.semantics.specs.Table.{variables, commands, count}
-use Rattle.semantics.specs.Bare.{State, Outcome, command, Ending, done, out_of_memory, stuck, ended, after_command, then_command, commands_below, ending}
-use Rattle.lookups.proofs.Commands.{place_is, value_is, command_nodes}
-use Rattle.bare_steps.specs.Answers.{full, state_of, Answers, answers_ok, answers_full, answers_stuck, DoneIs}
+use Rattle.semantics.specs.Bare.{State, command, Ending, done, out_of_memory, stuck, ended, after_command, then_command, commands_below, ending}
+use Rattle.lookups.specs.declared.Lists.{Lists}
+use Rattle.lookups.proofs.Commands.{command_words, place_is, value_is, command_nodes}
+use Rattle.bare_steps.specs.declared.Halt.{Halt}
+use Rattle.bare_steps.specs.declared.Halt.TheVariants as halt
+use Rattle.bare_steps.specs.Answers.{outcome_of}
 use Rattle.bare_commands.specs.Command.{CommandReady, CommandAnswered}
 use Rattle.bare_commands.specs.Execution.{ended_of, Executable, Executed}
 use Rattle.bare_commands.specs.declared.Ended.{Ended}
 use Rattle.bare_commands.specs.declared.Ended.TheVariants.{Done, NoRoom, Stuck}
 
--- The commands below c, run from m₀ and u₀, are done, and leave this memory, which is as long, and this U.
-pub record SoFar (t : Words) (m₀ : List Words) (u₀ : ℕ) (m : List Words) (u c : ℕ) : Type 0 where
-  pub runs : commands_below t c (state_of m₀ u₀) ≡ ended done (state_of m u)
-  pub long : length (column m 0) ≡ length (column m₀ 0)
+-- The commands below c, run from s₀, are done, and leave this state, whose memory is as long.
+pub record SoFar (t : Words) (s₀ s : State) (c : ℕ) : Type 0 where
+  pub runs : commands_below t c s₀ ≡ ended done s
+  pub long : length s.values ≡ length s₀.values
 
-pub none_yet : (t : Words) (m : List Words) (u : ℕ) → SoFar t m u m u 0
+pub none_yet : (t : Words) (s : State) → SoFar t s s 0
 unfolding commands_below
-none_yet t m u = record { runs = refl; long = refl }
+none_yet t s = record { runs = refl; long = refl }
 
 -- A run that has ended stays so.
 then_ended : (t : Words) (c : ℕ) (e : Ending) (s : State) → (e ≡ done → ⊥) → then_command t c e s ≡ ended e s
@@ -45,16 +47,20 @@ ended_stays t s c (suc n) e s' h other less = go (ℕ_discrete c (suc n)) (ended
     go (no q) below = rw (below (omega arith)) (then_ended t n e s' other)
 
 -- A run that ended is what was answered.
-executed : (t : Words) (m₀ : List Words) (u₀ : ℕ) {m : List Words} {u : ℕ} (e : Ending) (r : Ended) → ended_of r ≡ ending e u
-    → commands_below t (count t commands) (state_of m₀ u₀) ≡ ended e (state_of m u) → Executed t m₀ u₀ r m
-executed t m₀ u₀ e r h runs = record { is = rw (runs, h) }
+executed : (t : Words) (s₀ : State) {s : State} {m : Words} (e : Ending) (r : Ended) → m ≡ s.values → ended_of r ≡ ending e s.unused
+    → commands_below t (count t commands) s₀ ≡ ended e s → Executed t s₀.values s₀.unused r m
+executed t s₀ e r same h runs = record { is = rw (runs, h, same) }
+
+-- The words of a command stand in the table.
+pub command_inside : {t : Words} {l : Lists} {at total c : ℕ} {m : Words} → Executable t l at total m → c < total → at + 2 * c + 1 < length t
+command_inside x less = (command_words x.lists_of x.first x.all _ less).2
 
 -- All commands are done.
-pub all_done : {t : Words} {m₀ m : List Words} {u₀ u c : ℕ} → SoFar t m₀ u₀ m u c → c ≡ count t commands → Executed t m₀ u₀ (Done u) m
-all_done {t} {m₀} {u₀ = u₀} far h = executed t m₀ u₀ done (Done _) refl (rw h at far.runs)
+pub all_done : {t : Words} {s₀ s : State} {c : ℕ} {m : Words} → SoFar t s₀ s c → c ≡ count t commands → m ≡ s.values → Executed t s₀.values s₀.unused (Done s.unused) m
+all_done {t} {s₀} far h same = executed t s₀ done (Done _) same refl (rw h at far.runs)
 
-module _ {t : Words} {l m₀ m : List Words} {at total u₀ u c p v : ℕ} (x : Executable t l at total m₀) (far : SoFar t m₀ u₀ m u c) (less : c < total) (hp : p ≡ word t (at + 2 * c)) (hv : v ≡ word t (at + 2 * c + 1)) where
-  pub command_ready : CommandReady l m p v
+module _ {t : Words} {l : Lists} {s₀ s : State} {at total c p v : ℕ} (x : Executable t l at total s₀.values) (far : SoFar t s₀ s c) (less : c < total) (hp : p ≡ word t (at + 2 * c)) (hv : v ≡ word t (at + 2 * c + 1)) where
+  pub command_ready : CommandReady l s p v
   command_ready =
       record {
         table = t;
@@ -62,42 +68,27 @@ module _ {t : Words} {l m₀ m : List Words} {at total u₀ u c p v : ℕ} (x : 
         nodes_are = command_nodes x.lists_of x.first x.all c less hp hv;
       }
 
-  module _ {m' : List Words} {r u' : ℕ} (answer : CommandAnswered l m p v u r m' u') where
-    outcome : Answers DoneIs m' u' r (command t c (state_of m u))
+  module _ {r : Result ⊤ Halt} {s' : State} (answer : CommandAnswered l s p v r s') where
+    outcome : command t c s ≡ outcome_of r s'
     unfolding command
     outcome =
         rw (← place_is x.lists_of x.first x.all c less hp hv, ← value_is x.lists_of x.first x.all c less hp hv)
         (answer.meets t (count t variables) (omega (arith, x.room, far.long)) (command_nodes x.lists_of x.first x.all c less hp hv))
 
     -- The run up to this command is what the command's outcome ends it as.
-    this_command : commands_below t (suc c) (state_of m₀ u₀) ≡ after_command c (command t c (state_of m u))
+    this_command : commands_below t (suc c) s₀ ≡ after_command c (outcome_of r s')
     unfolding commands_below
-    this_command = rw far.runs
+    this_command = rw (far.runs, outcome)
 
-    pub command_goes_on : r < full → SoFar t m₀ u₀ m' u' (c + 1)
-    command_goes_on small = record { runs = rw (add-one c) (this_command ∙ go outcome); long = answer.long ∙ far.long }
-      where
-        go : {o : Outcome (Unit {0})} → Answers DoneIs m' u' r o → after_command c o ≡ ended done (state_of m' u')
-        go (answers_ok y e s) = refl
-        go (answers_full e) = absurd (omega arith)
-        go (answers_stuck e) = absurd (omega arith)
+    pub command_goes_on : r ≡ Ok tt → SoFar t s₀ s' (c + 1)
+    command_goes_on is = record { runs = rw (add-one c) (rw is at this_command); long = answer.long ∙ far.long }
 
-    ended_here : (e : Ending) (a : Ended) → (e ≡ done → ⊥) → ended_of a ≡ ending e u' → after_command c (command t c (state_of m u)) ≡ ended e (state_of m' u') → Executed t m₀ u₀ a m'
-    ended_here e a other told ends =
-        executed t m₀ u₀ e a told (ended_stays t (state_of m₀ u₀) (suc c) (count t commands) e (state_of m' u') (this_command ∙ ends) other (omega (arith, x.all)))
+    ended_here : {m : Words} (e : Ending) (a : Ended) → m ≡ s'.values → (e ≡ done → ⊥) → ended_of a ≡ ending e s'.unused → after_command c (outcome_of r s') ≡ ended e s' → Executed t s₀.values s₀.unused a m
+    ended_here e a same other told ends =
+        executed t s₀ e a same told (ended_stays t s₀ (suc c) (count t commands) e s' (this_command ∙ ends) other (omega (arith, x.all)))
 
-    pub command_full : r ≡ full → Executed t m₀ u₀ (NoRoom c u') m'
-    command_full h = ended_here (out_of_memory c) (NoRoom c u') (λ q. let z : ◌≡◌ {A = ℕ} 0 1 = cc in omega arith) refl (go outcome)
-      where
-        go : {o : Outcome (Unit {0})} → Answers DoneIs m' u' r o → after_command c o ≡ ended (out_of_memory c) (state_of m' u')
-        go (answers_ok y e s) = absurd (omega arith)
-        go (answers_full e) = refl
-        go (answers_stuck e) = absurd (omega arith)
+    pub command_full : {m : Words} → r ≡ Err halt.NoRoom → m ≡ s'.values → Executed t s₀.values s₀.unused (NoRoom c s'.unused) m
+    command_full is same = ended_here (out_of_memory c) (NoRoom c s'.unused) same (λ q. let z : ◌≡◌ {A = ℕ} 0 1 = cc in omega arith) refl (rw is)
 
-    pub command_stuck : full < r → Executed t m₀ u₀ (Stuck c u') m'
-    command_stuck h = ended_here (stuck c) (Stuck c u') (λ q. let z : ◌≡◌ {A = ℕ} 0 1 = cc in omega arith) refl (go outcome)
-      where
-        go : {o : Outcome (Unit {0})} → Answers DoneIs m' u' r o → after_command c o ≡ ended (stuck c) (state_of m' u')
-        go (answers_ok y e s) = absurd (omega arith)
-        go (answers_full e) = absurd (omega arith)
-        go (answers_stuck e) = refl
+    pub command_stuck : {m : Words} → r ≡ Err halt.Stuck → m ≡ s'.values → Executed t s₀.values s₀.unused (Stuck c s'.unused) m
+    command_stuck is same = ended_here (stuck c) (Stuck c s'.unused) same (λ q. let z : ◌≡◌ {A = ℕ} 0 1 = cc in omega arith) refl (rw is)

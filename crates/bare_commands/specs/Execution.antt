@@ -1,12 +1,11 @@
 -- All commands of a table, without bounds: what they are run from, and how they end.
-use Rattle.std.specs.Prelude.{ℕ, ◌+◌, ◌≤◌, ◌<◌, ◌≡◌, List, length}
+use Rattle.std.specs.Prelude.{ℕ, ◌+◌, ◌≤◌, ◌<◌, ◌≡◌, length}
 use Rattle.semantics.specs.Words.{Words}
 use Rattle.semantics.specs.Table.{variables, commands, count_place, count}
 use Rattle.semantics.specs.Bare as Bare
 use Rattle.semantics.specs.Bare.{ending, done, out_of_memory, stuck, result_of, commands_below}
-use Rattle.lookups.specs.Lists.{Lists}
-use Rattle.words.specs.Columns.{column}
-use Rattle.bare_steps.specs.Answers.{state_of}
+use Rattle.lookups.specs.declared.Lists.{Lists}
+use Rattle.lookups.specs.Lists.{ListsOf}
 use Rattle.bare_commands.specs.declared.Ended.{Ended}
 use Rattle.bare_commands.specs.declared.Ended.TheVariants.{Done, NoRoom, Stuck}
 
@@ -16,14 +15,14 @@ ended_of (Done u) = ending done u
 ended_of (NoRoom c u) = ending (out_of_memory c) u
 ended_of (Stuck c u) = ending (stuck c) u
 
--- The commands stand at `at`, l are the table's lists, and the memory has a word for each variable.
-pub record Executable (t : Words) (l : List Words) (at total : ℕ) (m : List Words) : Type 0 where
-  pub lists_of : Lists t l
+-- The commands stand at `at`, l are the table's lists, and the memory m has a word for each variable.
+pub record Executable (t : Words) (l : Lists) (at total : ℕ) (m : Words) : Type 0 where
+  pub lists_of : ListsOf t l
   pub first : at ≡ count_place t commands + 1
   pub all : total ≡ count t commands
-  pub room : count t variables < length (column m 0)
-  pub most : length (column m 0) ≤ 65536
+  pub room : count t variables < length m
+  pub most : length m ≤ 65536
 
 -- The commands were run from this memory and this U, and ended so.
-pub record Executed (t : Words) (m : List Words) (u : ℕ) (r : Ended) (m' : List Words) : Type 0 where
-  pub is : record { answer = ended_of r; values = column m' 0 } ≡ result_of (commands_below t (count t commands) (state_of m u))
+pub record Executed (t : Words) (m : Words) (u : ℕ) (r : Ended) (m' : Words) : Type 0 where
+  pub is : record { answer = ended_of r; values = m' } ≡ result_of (commands_below t (count t commands) (record { values = m; unused = u }))

@@ -1,8 +1,9 @@
 -- How a step of the bare run answers: one number for the value or the place, or for how evaluation ended.
-use Rattle.std.specs.Prelude.{ℕ, ◌<◌, ◌≡◌, List, length}
-use Rattle.words.specs.Columns.{column}
-use Rattle.semantics.specs.Words.{Words}
+use Rattle.std.specs.Prelude.{ℕ, ◌<◌, ◌≡◌, length, Result, Ok, Err, ⊤}
 use Rattle.semantics.specs.Bare.{State, Outcome, ok, no_room, no_word, bind, assign_step}
+use Rattle.bare_steps.specs.declared.Memory.{Memory}
+use Rattle.bare_steps.specs.declared.Halt.{Halt}
+use Rattle.bare_steps.specs.declared.Halt.TheVariants.{NoRoom, Stuck}
 
 -- No room, and a word that can't be read or assigned.
 abbrev pub full : ℕ
@@ -11,30 +12,33 @@ full = 4294967296
 abbrev pub stuck : ℕ
 stuck = 4294967297
 
--- The memory m, one list, and U as a state.
-abbrev pub state_of : List Words → ℕ → State
-state_of m u = record { values = column m 0; unused = u }
+-- The memory as a state: its values, and U.
+abbrev pub state_of : Memory → State
+state_of m = record { values = m.values.now; unused = m.unused }
 
--- An outcome is what was answered, r with U and the memory: a result, no room, or stuck.
-pub data Answers {A : Type 0} (Is : A → ℕ → Type 0) (m : List Words) (u r : ℕ) : Outcome A → Type 0 where
-  answers_ok : (x : A) → Is x r → r < full → Answers Is m u r (ok x (state_of m u))
-  answers_full : r ≡ full → Answers Is m u r (no_room (state_of m u))
-  answers_stuck : r ≡ stuck → Answers Is m u r (no_word (state_of m u))
+-- An outcome is what was answered, r with the state s: a result, which is the number itself, no room, or stuck.
+pub data Answers (s : State) (r : ℕ) : Outcome ℕ → Type 0 where
+  answers_ok : (x : ℕ) → x ≡ r → r < full → Answers s r (ok x s)
+  answers_full : r ≡ full → Answers s r (no_room s)
+  answers_stuck : r ≡ stuck → Answers s r (no_word s)
 
--- A place or a value is the number itself; a command that is done answers 0.
-abbrev pub NumberIs : ℕ → ℕ → Type 0
-NumberIs x r = x ≡ r
+-- The step f, from a child that answered v with the state s, answers r with the state s', whose memory is as long. Where the child's evaluation ended,
+-- that is passed on.
+pub record Finishes (f : ℕ → State → Outcome ℕ) (s : State) (v : ℕ) (s' : State) (r : ℕ) : Type 0 where
+  pub long : length s'.values ≡ length s.values
+  pub meets : {o : Outcome ℕ} → Answers s v o → Answers s' r (bind o f)
 
-abbrev pub DoneIs : Unit {0} → ℕ → Type 0
-DoneIs x r = r ≡ 0
+-- What an answer says, with the state that it leaves: done with x, or how evaluation ended.
+abbrev pub outcome_of : {A : Type 0} → Result A Halt → State → Outcome A
+outcome_of (Ok x) s = ok x s
+outcome_of (Err NoRoom) s = no_room s
+outcome_of (Err Stuck) s = no_word s
 
--- The step f, from a child that answered v with U and the memory m, answers r with U' and the memory m', which is as long. Where the child's evaluation
--- ended, that is passed on.
-pub record Finishes (f : ℕ → State → Outcome ℕ) (m : List Words) (u v : ℕ) (m' : List Words) (u' r : ℕ) : Type 0 where
-  pub long : length (column m' 0) ≡ length (column m 0)
-  pub meets : {o : Outcome ℕ} → Answers NumberIs m u v o → Answers NumberIs m' u' r (bind o f)
+-- The answer x says what the number r does.
+pub record Tells (r : ℕ) (x : Result ℕ Halt) : Type 0 where
+  pub each : (s : State) (o : Outcome ℕ) → Answers s r o → o ≡ outcome_of x s
 
--- An assignment of x to word w answers r, and leaves the memory m', which is as long.
-pub record Assigns (w x : ℕ) (m : List Words) (r : ℕ) (m' : List Words) : Type 0 where
-  pub long : length (column m' 0) ≡ length (column m 0)
-  pub meets : (u : ℕ) → Answers DoneIs m' u r (assign_step w x (state_of m u))
+-- An assignment of x to word w answers r, and leaves the state s', whose memory is as long.
+pub record Assigns (w x : ℕ) (s : State) (r : Result ⊤ Halt) (s' : State) : Type 0 where
+  pub long : length s'.values ≡ length s.values
+  pub meets : assign_step w x s ≡ outcome_of r s'

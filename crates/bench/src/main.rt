@@ -3,64 +3,47 @@
 
 ghost use Rattle.bench.specs.Input.{Reads, Read, AnswersInput};
 
-use console::Output;
-use text::Scanner;
+use steps::Memory;
+use text::{Output, Scanner};
 
-#[derive(Clone, Copy)]
-struct Progress {
-    more: bool,
-    scanner: Scanner,
-}
-
-// Reads once, and scans what came. A read that fails ends the text as its end does.
-fn read_some(rt: HostRuntime, numbers: &mut [u32], s: Scanner) -> Progress
+// Reads once, and scans what came: None at the text's end. A read that fails ends the text as its end does.
+fn read_some(rt: HostRuntime, numbers: &mut [u32], s: Scanner) -> Option<Scanner>
     ensures { Reads s numbers.old numbers.new result }
 {
     let mut buffer = [0u8; 65536];
     let n = stream::read_some(rt, &mut buffer);
     if n == 0 {
-        return Progress {
-            more: false,
-            scanner: s,
-        };
+        return None;
     }
-    let scanner = text::scan(&buffer[..n], numbers, s);
-    Progress {
-        more: true,
-        scanner,
-    }
+    let scanned = text::scan(&buffer[..n], numbers, s);
+    Some(scanned)
 }
 
-// Scans standard input. A proved loop has to end, so this one counts its turns down from a number that no run uses up.
+// Scans standard input. A proved loop has to end, so this one has more turns than a run uses up.
 fn read_all(rt: HostRuntime, numbers: &mut [u32]) -> Scanner
     ensures { Read numbers.new result }
 {
     let mut s = Scanner::new();
-    let mut turns = u64::MAX;
-    while turns > 0 {
-        let p = read_some(rt, numbers, s);
-        s = p.scanner;
-        if !p.more {
-            return s;
+    for _ in 0..u64::MAX {
+        match read_some(rt, numbers, s) {
+            Some(next) => s = next,
+            None => break,
         }
-        turns -= 1;
     }
     s
 }
 
-// Reads a text and puts what is to be printed for it at the front of `out`.
+// Reads a text and puts what is to be printed for it at the front of `out`: answers how many bytes that are.
 fn answer_input(
     rt: HostRuntime,
     numbers: &mut [u32],
-    values: &mut [u32],
-    bases: &mut [u32],
-    ends: &mut [u32],
+    memory: &mut Memory,
     out: &mut [u8],
-) -> Output
-    ensures { AnswersInput numbers.old values.old bases.old ends.old out.old out.new result }
+) -> Option<usize>
+    ensures { AnswersInput numbers.old memory.old out.old out.new result }
 {
     let s = read_all(rt, numbers);
-    console::answer(numbers, s, values, bases, ends, out)
+    console::answer(numbers, s, memory, out)
 }
 
 fn main(rt: HostRuntime) {
@@ -69,17 +52,20 @@ fn main(rt: HostRuntime) {
     let mut values = [0u32; 4096];
     let mut bases = [0u32; 4096];
     let mut ends = [0u32; 4096];
+    let mut memory = Memory {
+        values: &mut values,
+        bases: &mut bases,
+        ends: &mut ends,
+    };
     // Room for the longest answer.
-    let mut out = [0u8; 344064];
-    let r = answer_input(
-        rt,
-        &mut numbers,
-        &mut values,
-        &mut bases,
-        &mut ends,
-        &mut out,
-    );
-    if let Output::Printed(n) = r {
-        stream::flush(rt, &out, n);
+    let mut out = [0u8; console::ROOM];
+    if let Some(at) = answer_input(rt, &mut numbers, &mut memory, &mut out) {
+        stream::flush(
+            rt,
+            &mut Output {
+                bytes: &mut out,
+                at,
+            },
+        );
     }
 }

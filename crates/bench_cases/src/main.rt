@@ -2,62 +2,47 @@
 // text, and what `bench` prints for each is printed in turn.
 #![tactic(auto)]
 
-use console::Output;
-use stream::Part;
-use text::Scanner;
+use steps::Memory;
+use stream::{Part, PartEnd};
+use text::{Output, Scanner};
 
 // Scans a part of a text, and answers the text if it ends there. Answers the scanner for the next part.
 fn take_part(
     rt: HostRuntime,
     part: &[u8],
-    state: u32,
+    end: PartEnd,
     s: Scanner,
     numbers: &mut [u32],
-    values: &mut [u32],
-    bases: &mut [u32],
-    ends: &mut [u32],
+    memory: &mut Memory,
     out: &mut [u8],
 ) -> Scanner {
     let s = text::scan(part, numbers, s);
-    if state == Part::OPEN {
+    if end == PartEnd::Open {
         return s;
     }
-    let r = console::answer(numbers, s, values, bases, ends, out);
-    if let Output::Printed(n) = r {
-        stream::flush(rt, out, n);
+    if let Some(at) = console::answer(numbers, s, memory, out) {
+        stream::flush(rt, &mut Output { bytes: out, at });
     }
     Scanner::new()
 }
 
-// Answers every text. A proved loop has to end, so this one counts its turns down from a number that no run uses up.
+// Answers every text. A proved loop has to end, so this one has more turns than a run uses up.
 fn answer_all(
     rt: HostRuntime,
     buffer: &mut [u8],
     numbers: &mut [u32],
-    values: &mut [u32],
-    bases: &mut [u32],
-    ends: &mut [u32],
+    memory: &mut Memory,
     out: &mut [u8],
 ) {
     let mut s = Scanner::new();
     let mut part = Part::new();
-    let mut turns = u64::MAX;
-    while turns > 0 && part.state != Part::LAST {
+    for _ in 0..u64::MAX {
         part = stream::next_part(rt, buffer, part, b'%');
-        let from = part.from;
-        let to = part.to;
-        s = take_part(
-            rt,
-            &buffer[from..to],
-            part.state,
-            s,
-            numbers,
-            values,
-            bases,
-            ends,
-            out,
-        );
-        turns -= 1;
+        let bytes = &buffer[part.from..part.to];
+        s = take_part(rt, bytes, part.end, s, numbers, memory, out);
+        if part.end == PartEnd::Last {
+            break;
+        }
     }
 }
 
@@ -68,15 +53,12 @@ fn main(rt: HostRuntime) {
     let mut values = [0u32; 4096];
     let mut bases = [0u32; 4096];
     let mut ends = [0u32; 4096];
+    let mut memory = Memory {
+        values: &mut values,
+        bases: &mut bases,
+        ends: &mut ends,
+    };
     // Room for the longest answer.
-    let mut out = [0u8; 344064];
-    answer_all(
-        rt,
-        &mut buffer,
-        &mut numbers,
-        &mut values,
-        &mut bases,
-        &mut ends,
-        &mut out,
-    );
+    let mut out = [0u8; console::ROOM];
+    answer_all(rt, &mut buffer, &mut numbers, &mut memory, &mut out);
 }

@@ -3,13 +3,14 @@
 
 ghost use Rattle.std.specs.Prelude.{◌≡◌};
 ghost use Rattle.semantics.specs.Check.{check};
-ghost use Rattle.semantics.specs.Run.{call};
+ghost use Rattle.semantics.specs.Run.{refusal, call};
 ghost use Rattle.semantics.specs.Safety.{SpatiallySafe};
 ghost use Rattle.semantics.specs.Log.{LogBelievable};
-ghost use Rattle.capi.specs.Numbers.{verdict_numbers, Is};
+ghost use Rattle.layout.specs.Refusals.{number_of};
+ghost use Rattle.capi.specs.Numbers.{verdict_numbers, answer_numbers, Is};
 
-use layout::Verdict;
-use machine::Answer;
+use commands::Ending;
+use layout::Refusal;
 
 // refused 0: the table passes, and number and place are 0.
 #[repr(C)]
@@ -31,19 +32,46 @@ pub struct MavistableAnswer {
     pub unused: u32,
 }
 
+impl MavistableAnswer {
+    pub fn refused(r: Refusal) -> MavistableAnswer
+        ensures { result ≡ answer_numbers (refusal (number_of r.fault) r.place) }
+    {
+        MavistableAnswer {
+            ending: 0,
+            number: r.fault.number(),
+            place: r.place,
+            command: 0,
+            unused: 0,
+        }
+    }
+
+    // How a begun run ended, by the number of its ending.
+    pub fn ended(ending: u32, command: u32, unused: u32) -> MavistableAnswer
+        ensures { result ≡ record { ending = ending; number = 0; place = 0; command = command; unused = unused } }
+    {
+        MavistableAnswer {
+            ending,
+            number: 0,
+            place: 0,
+            command,
+            unused,
+        }
+    }
+}
+
 pub fn mavistable_check(table: &[u32]) -> MavistableVerdict
     ensures { result ≡ verdict_numbers (check table.now) }
 {
     match machine::check(table) {
-        Verdict::Passes => MavistableVerdict {
+        Ok(()) => MavistableVerdict {
             refused: 0,
             number: 0,
             place: 0,
         },
-        Verdict::Refused(number, place) => MavistableVerdict {
+        Err(r) => MavistableVerdict {
             refused: 1,
-            number,
-            place,
+            number: r.fault.number(),
+            place: r.place,
         },
     }
 }
@@ -61,33 +89,9 @@ pub fn mavistable_run(
     ensures logged { LogBelievable table.now inputs.now registers.now values.old bases.old ends.old }
 {
     match machine::run(table, inputs, registers, values, bases, ends) {
-        Answer::Refused(number, place) => MavistableAnswer {
-            ending: 0,
-            number,
-            place,
-            command: 0,
-            unused: 0,
-        },
-        Answer::Done(unused) => MavistableAnswer {
-            ending: 1,
-            number: 0,
-            place: 0,
-            command: 0,
-            unused,
-        },
-        Answer::Abort(command, unused) => MavistableAnswer {
-            ending: 2,
-            number: 0,
-            place: 0,
-            command,
-            unused,
-        },
-        Answer::NoRoom(command, unused) => MavistableAnswer {
-            ending: 3,
-            number: 0,
-            place: 0,
-            command,
-            unused,
-        },
+        Err(r) => MavistableAnswer::refused(r),
+        Ok(Ending::Done(unused)) => MavistableAnswer::ended(1, 0, unused),
+        Ok(Ending::Abort(command, unused, ())) => MavistableAnswer::ended(2, command, unused),
+        Ok(Ending::NoRoom(command, unused)) => MavistableAnswer::ended(3, command, unused),
     }
 }

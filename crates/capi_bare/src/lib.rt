@@ -6,8 +6,8 @@ ghost use Rattle.semantics.specs.Bare.{call};
 ghost use Rattle.semantics.specs.Agreement.{SameResult};
 ghost use Rattle.capi_bare.specs.Numbers.{Is};
 
+use bare_commands::Ended;
 use capi::MavistableAnswer;
-use machine::BareAnswer;
 
 // The numbers of `MavistableAnswer`: 1 is done, 3 no room, and 4 stuck. What an ending does not tell is 0.
 pub fn mavistable_run_bare(
@@ -20,33 +20,9 @@ pub fn mavistable_run_bare(
     ensures agrees { (vs bs es : Words) → SameResult table.now inputs.now registers.now vs bs es values.old }
 {
     match machine::run_bare(table, inputs, registers, values) {
-        BareAnswer::Refused(number, place) => MavistableAnswer {
-            ending: 0,
-            number,
-            place,
-            command: 0,
-            unused: 0,
-        },
-        BareAnswer::Done(unused) => MavistableAnswer {
-            ending: 1,
-            number: 0,
-            place: 0,
-            command: 0,
-            unused,
-        },
-        BareAnswer::NoRoom(command, unused) => MavistableAnswer {
-            ending: 3,
-            number: 0,
-            place: 0,
-            command,
-            unused,
-        },
-        BareAnswer::Stuck(command, unused) => MavistableAnswer {
-            ending: 4,
-            number: 0,
-            place: 0,
-            command,
-            unused,
-        },
+        Err(r) => MavistableAnswer::refused(r),
+        Ok(Ended::Done(unused)) => MavistableAnswer::ended(1, 0, unused),
+        Ok(Ended::NoRoom(command, unused)) => MavistableAnswer::ended(3, command, unused),
+        Ok(Ended::Stuck(command, unused)) => MavistableAnswer::ended(4, command, unused),
     }
 }

@@ -3,179 +3,148 @@
 // the lists have at most 64 words, all 7 before each call. What is no case is answered by `case`.
 #![tactic(auto)]
 
-ghost use Rattle.std.specs.Prelude.{◌≤◌, ◌<◌, length};
-
 use capi::{MavistableAnswer, MavistableVerdict};
 use capi_explain::MavistableExplanation;
-use stream::{least, put_after};
-use text::Scanner;
-use words::{index, long};
-
-// The calls, of which the check is made with the run.
-const RUN: u32 = 0;
-
-const EXPLAIN: u32 = 2;
-
-const BARE: u32 = 3;
+use cases::Program;
+use steps::Memory;
+use stream::put_after;
+use text::{Output, Scanner};
 
 fn malformed(rt: HostRuntime) {
-    let bytes = b"case\n";
-    stream::flush(rt, bytes, bytes.len());
+    stream::print(rt, b"case\n");
 }
 
-fn put_verdict(out: &mut [u8], at: usize, v: MavistableVerdict) -> usize {
-    let at = put_after(out, at, b"check ", long(v.refused));
-    let at = put_after(out, at, b" ", long(v.number));
-    let at = put_after(out, at, b" ", v.place as u64);
-    text::put_bytes(out, at, b"\n")
+fn put_verdict(out: &mut Output, v: MavistableVerdict) {
+    put_after(out, b"check ", v.refused as u64);
+    put_after(out, b" ", v.number as u64);
+    put_after(out, b" ", v.place as u64);
+    out.put_bytes(b"\n");
 }
 
-fn put_answer(out: &mut [u8], at: usize, name: &[u8], a: MavistableAnswer) -> usize {
-    let at = put_after(out, at, name, long(a.ending));
-    let at = put_after(out, at, b" ", long(a.number));
-    let at = put_after(out, at, b" ", a.place as u64);
-    let at = put_after(out, at, b" ", long(a.command));
-    let at = put_after(out, at, b" ", long(a.unused));
-    text::put_bytes(out, at, b"\n")
+fn put_answer(out: &mut Output, name: &[u8], a: MavistableAnswer) {
+    put_after(out, name, a.ending as u64);
+    put_after(out, b" ", a.number as u64);
+    put_after(out, b" ", a.place as u64);
+    put_after(out, b" ", a.command as u64);
+    put_after(out, b" ", a.unused as u64);
+    out.put_bytes(b"\n");
 }
 
-fn put_ending(out: &mut [u8], at: usize, x: MavistableExplanation) -> usize {
-    let at = put_after(out, at, b"explain ", long(x.ending));
-    let at = put_after(out, at, b" ", long(x.number));
-    let at = put_after(out, at, b" ", x.place as u64);
-    let at = put_after(out, at, b" ", long(x.command));
-    put_after(out, at, b" ", long(x.unused))
+fn put_ending(out: &mut Output, x: MavistableExplanation) {
+    put_after(out, b"explain ", x.ending as u64);
+    put_after(out, b" ", x.number as u64);
+    put_after(out, b" ", x.place as u64);
+    put_after(out, b" ", x.command as u64);
+    put_after(out, b" ", x.unused as u64);
 }
 
-fn put_check(out: &mut [u8], at: usize, x: MavistableExplanation) -> usize {
-    let at = put_after(out, at, b" ", long(x.node));
-    let at = put_after(out, at, b" ", long(x.words));
-    let at = put_after(out, at, b" ", x.wanted);
-    let at = put_after(out, at, b" ", long(x.base));
-    put_after(out, at, b" ", long(x.end))
+fn put_check(out: &mut Output, x: MavistableExplanation) {
+    put_after(out, b" ", x.node as u64);
+    put_after(out, b" ", x.words as u64);
+    put_after(out, b" ", x.wanted);
+    put_after(out, b" ", x.base as u64);
+    put_after(out, b" ", x.end as u64);
 }
 
-fn put_explanation(out: &mut [u8], at: usize, x: MavistableExplanation) -> usize {
-    let at = put_ending(out, at, x);
-    let at = put_check(out, at, x);
-    let at = put_after(out, at, b" ", long(x.reason));
-    let at = put_after(out, at, b" ", long(x.first));
-    text::put_bytes(out, at, b"\n")
+fn put_explanation(out: &mut Output, x: MavistableExplanation) {
+    put_ending(out, x);
+    put_check(out, x);
+    put_after(out, b" ", x.reason as u64);
+    put_after(out, b" ", x.first as u64);
+    out.put_bytes(b"\n");
 }
 
-fn put_list(out: &mut [u8], at: usize, name: &[u8], list: &[u32]) -> usize {
-    let mut at = text::put_bytes(out, at, name);
-    for i in 0..list.len() {
-        at = put_after(out, at, b" ", long(list[i]));
+fn put_list(out: &mut Output, name: &[u8], list: &[u32]) {
+    out.put_bytes(name);
+    for word in list {
+        put_after(out, b" ", *word as u64);
     }
-    text::put_bytes(out, at, b"\n")
+    out.put_bytes(b"\n");
 }
 
-fn put_lists(out: &mut [u8], at: usize, values: &[u32], bases: &[u32], ends: &[u32]) -> usize {
-    let at = put_list(out, at, b"values", values);
-    let at = put_list(out, at, b"bases", bases);
-    put_list(out, at, b"ends", ends)
+fn put_memory(out: &mut Output, memory: &Memory) {
+    put_list(out, b"values", memory.values);
+    put_list(out, b"bases", memory.bases);
+    put_list(out, b"ends", memory.ends);
 }
 
-fn check_and_run(
+fn check_and_run(program: Program, memory: &mut Memory, out: &mut Output) {
+    let v = capi::mavistable_check(program.table);
+    let a = capi::mavistable_run(
+        program.table,
+        program.inputs,
+        program.registers,
+        memory.values,
+        memory.bases,
+        memory.ends,
+    );
+    put_verdict(out, v);
+    put_answer(out, b"run ", a);
+    put_memory(out, memory);
+}
+
+fn explain(program: Program, memory: &mut Memory, out: &mut Output) {
+    let x = capi_explain::mavistable_explain(
+        program.table,
+        program.inputs,
+        program.registers,
+        memory.values,
+        memory.bases,
+        memory.ends,
+    );
+    put_explanation(out, x);
+    put_memory(out, memory);
+}
+
+fn run_bare(program: Program, memory: &mut Memory, out: &mut Output) {
+    let a = capi_bare::mavistable_run_bare(
+        program.table,
+        program.inputs,
+        program.registers,
+        memory.values,
+    );
+    put_answer(out, b"bare ", a);
+    put_list(out, b"values", memory.values);
+}
+
+// The most words of a list that a case lends.
+const WORDS: usize = 64;
+
+// Makes a call of a program in the lists that it lends, and prints what the call puts.
+fn lend<Call: FnOnce(Program, &mut Memory, &mut Output)>(
     rt: HostRuntime,
-    t: &[u32],
-    inputs: &[u32],
-    registers: &[u32],
-    values: &mut [u32],
-    bases: &mut [u32],
-    ends: &mut [u32],
-) {
-    let mut out = [0u8; 65536];
-    let v = capi::mavistable_check(t);
-    let a = capi::mavistable_run(t, inputs, registers, values, bases, ends);
-    let at = put_verdict(&mut out, 0, v);
-    let at = put_answer(&mut out, at, b"run ", a);
-    let at = put_lists(&mut out, at, values, bases, ends);
-    stream::flush(rt, &out, at);
-}
-
-fn explain(
-    rt: HostRuntime,
-    t: &[u32],
-    inputs: &[u32],
-    registers: &[u32],
-    values: &mut [u32],
-    bases: &mut [u32],
-    ends: &mut [u32],
-) {
-    let mut out = [0u8; 65536];
-    let x = capi_explain::mavistable_explain(t, inputs, registers, values, bases, ends);
-    let at = put_explanation(&mut out, 0, x);
-    let at = put_lists(&mut out, at, values, bases, ends);
-    stream::flush(rt, &out, at);
-}
-
-fn run_bare(rt: HostRuntime, t: &[u32], inputs: &[u32], registers: &[u32], values: &mut [u32]) {
-    let mut out = [0u8; 65536];
-    let a = capi_bare::mavistable_run_bare(t, inputs, registers, values);
-    let at = put_answer(&mut out, 0, b"bare ", a);
-    let at = put_list(&mut out, at, b"values", values);
-    stream::flush(rt, &out, at);
-}
-
-// A case whose registers start at `list` and whose table stands from `from` to `to`.
-fn lend(rt: HostRuntime, call: u32, numbers: &[u32], list: usize, from: usize, to: usize)
-    requires { (8 ≤ list) × (list < from) × (from ≤ to) × (to ≤ length numbers.now) }
+    program: Program,
+    out: &mut Output,
+    call: Call,
+)
+    requires { Call.IsAlwaysCallable call }
 {
-    let v = index(numbers[2]);
-    let b = index(numbers[3]);
-    let e = index(numbers[4]);
-    if 64 < v || 64 < b || 64 < e {
+    let values = program.values as usize;
+    let bases = program.bases as usize;
+    let ends = program.ends as usize;
+    if WORDS < values || WORDS < bases || WORDS < ends {
         return malformed(rt);
     }
-    let mut values = [7u32; 64];
-    let mut bases = [7u32; 64];
-    let mut ends = [7u32; 64];
-    let inputs_end = list - 1;
-    let list_end = from - 1;
-    let t = &numbers[from..to];
-    let inputs = &numbers[7..inputs_end];
-    let registers = &numbers[list..list_end];
-    let v = &mut values[0..v];
-    let b = &mut bases[0..b];
-    let e = &mut ends[0..e];
-    match call {
-        RUN => check_and_run(rt, t, inputs, registers, v, b, e),
-        EXPLAIN => explain(rt, t, inputs, registers, v, b, e),
-        _ => run_bare(rt, t, inputs, registers, v),
-    }
+    let mut memory = Memory {
+        values: &mut [7u32; WORDS][..values],
+        bases: &mut [7u32; WORDS][..bases],
+        ends: &mut [7u32; WORDS][..ends],
+    };
+    call(program, &mut memory, out);
+    stream::flush(rt, out);
 }
 
-// Answers the case that the numbers start with, and tells how many of them it has: all that are left where they are no case.
-fn answer_case(rt: HostRuntime, numbers: &[u32]) -> usize
-    requires { 1 ≤ length numbers.now }
-    ensures { (1 ≤ result) × (result ≤ length numbers.now) }
-{
-    let n = numbers.len();
-    if 9 <= n {
-        let list = 8 + index(numbers[6]);
-        if list < n {
-            let from = list + 1 + index(numbers[list - 1]);
-            if from <= n {
-                let to = from + index(numbers[from - 1]);
-                if to <= n {
-                    lend(rt, RUN, numbers, list, from, to);
-                    lend(rt, EXPLAIN, numbers, list, from, to);
-                    lend(rt, BARE, numbers, list, from, to);
-                    return to;
-                }
-            }
-        }
+// Answers every case, each of which tells where the next begins. What follows the last one is none.
+fn answer_all(rt: HostRuntime, numbers: &[u32], out: &mut Output) {
+    let mut left = numbers;
+    while let Some((program, rest)) = Program::split(left) {
+        lend(rt, program, out, check_and_run);
+        lend(rt, program, out, explain);
+        lend(rt, program, out, run_bare);
+        left = rest;
     }
-    malformed(rt);
-    n
-}
-
-fn answer_all(rt: HostRuntime, numbers: &[u32]) {
-    let mut at = 0;
-    while at < numbers.len() {
-        at += answer_case(rt, &numbers[at..]);
+    if !left.is_empty() {
+        malformed(rt);
     }
 }
 
@@ -186,7 +155,8 @@ fn main(rt: HostRuntime) {
     let n = stream::read_full(rt, &mut buffer);
     let s = text::scan(&buffer[..n], &mut numbers, Scanner::new());
     let s = text::finish(&mut numbers, s);
-    // None where the text is malformed.
-    let count = least(s.count, 16384);
-    answer_all(rt, &numbers[0..count]);
+    // 0 where the text is malformed.
+    let count = s.count.min(numbers.len());
+    let mut bytes = [0u8; 65536];
+    answer_all(rt, &numbers[..count], &mut Output::new(&mut bytes));
 }

@@ -7,7 +7,8 @@ ghost use Rattle.semantics.specs.Log.{LogBelievable};
 ghost use Rattle.semantics.specs.Explain.{not_aborted, explain, TrulyExplained};
 ghost use Rattle.capi_explain.specs.Numbers.{with_cause, Explains};
 
-use machine::Explained;
+use capi::MavistableAnswer;
+use commands::Ending;
 
 // The numbers of `MavistableAnswer`, and for an abort its cause. What an ending does not tell is 0; reason 0: the run did not abort.
 #[repr(C)]
@@ -27,22 +28,16 @@ pub struct MavistableExplanation {
     pub first: u32,
 }
 
-// A call that did not abort.
-fn without_cause(
-    ending: u32,
-    number: u32,
-    place: usize,
-    command: u32,
-    unused: u32,
-) -> MavistableExplanation
-    ensures { result ≡ with_cause (record { ending = ending; number = number; place = place; command = command; unused = unused }) not_aborted }
+// The numbers of an answer, without a cause.
+fn without_cause(a: MavistableAnswer) -> MavistableExplanation
+    ensures { result ≡ with_cause a not_aborted }
 {
     MavistableExplanation {
-        ending,
-        number,
-        place,
-        command,
-        unused,
+        ending: a.ending,
+        number: a.number,
+        place: a.place,
+        command: a.command,
+        unused: a.unused,
         node: 0,
         words: 0,
         wanted: 0,
@@ -67,22 +62,20 @@ pub fn mavistable_explain(
     ensures logged { LogBelievable table.now inputs.now registers.now values.old bases.old ends.old }
 {
     match machine::explain(table, inputs, registers, values, bases, ends) {
-        Explained::Refused(number, place) => without_cause(0, number, place, 0, 0),
-        Explained::Done(unused) => without_cause(1, 0, 0, 0, unused),
-        Explained::NoRoom(command, unused) => without_cause(3, 0, 0, command, unused),
-        Explained::Abort(command, unused, x) => MavistableExplanation {
-            ending: 2,
-            number: 0,
-            place: 0,
-            command,
-            unused,
+        Err(r) => without_cause(MavistableAnswer::refused(r)),
+        Ok(Ending::Done(unused)) => without_cause(MavistableAnswer::ended(1, 0, unused)),
+        Ok(Ending::NoRoom(command, unused)) => without_cause(MavistableAnswer::ended(
+            3, command, unused,
+        )),
+        Ok(Ending::Abort(command, unused, x)) => MavistableExplanation {
             node: x.node,
             words: x.words,
             wanted: x.place,
             base: x.base,
             end: x.end,
-            reason: x.reason,
+            reason: x.reason as u32,
             first: x.first,
+            ..without_cause(MavistableAnswer::ended(2, command, unused))
         },
     }
 }

@@ -1,21 +1,17 @@
--- What is known of the parts of a case, by what it asks for.
-use Prim.Native.Nat.{ℕ, ◌≤◌}
+-- Where the parts of a case lie in its numbers.
+use Prim.Native.Nat.{ℕ, ◌+◌, ◌<◌}
 use mathlib.Core.List.{List}
-use mathlib.Core.Path.{◌≡◌}
-use lib.ListN.{length}
-use Rattle.cases.specs.Cases.{Within, Parsed}
-use Rattle.cases.specs.declared.Case.{Case}
-use Rattle.cases.specs.declared.Case.TheVariants.{Run, Check, Explain, Bare}
+use mathlib.Core.Path.{ap}
+use native.Mathlib.Omega.{arith}
+use lib.ListN.{length, length-append, length-drop}
+use Rattle.cases.specs.Cases.{StartsWith, Within}
+use Rattle.cases.specs.declared.Program.{Program}
 
-module _ (numbers : List ℕ) (r : Case) (h : Parsed numbers r) where
-  pub of_run : (list from : ℕ) → r ≡ Run list from → Within numbers list from
-  of_run list from e = rw e at h
+module _ {numbers : List ℕ} {p : Program} {rest : List ℕ} (h : StartsWith numbers p rest) where
+  pub parts_within : Within numbers (8 + length p.inputs.now) (9 + length p.inputs.now + length p.registers.now)
+  parts_within =
+      let size = simp (length-append, length-drop) at (ap length h.parts) in
+      (omega arith, omega arith, omega (arith, h.six, size))
 
-  pub of_check : (from : ℕ) → r ≡ Check from → (9 ≤ from) × (from ≤ length numbers)
-  of_check from e = rw e at h
-
-  pub of_explain : (list from : ℕ) → r ≡ Explain list from → Within numbers list from
-  of_explain list from e = rw e at h
-
-  pub of_bare : (list from : ℕ) → r ≡ Bare list from → Within numbers list from
-  of_bare list from e = rw e at h
+  pub rest_shorter : length rest < length numbers
+  rest_shorter = let size = simp (length-append, length-drop) at (ap length h.parts) in omega (arith, h.six, size)

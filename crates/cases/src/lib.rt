@@ -1,86 +1,142 @@
-// Recorded cases: the lines of the input, and where the parts of a case stand among the numbers of its line. A case is
+// Recorded cases: the lines of the input, and the parts of a case that the numbers of a line are. A case is
 // `CALL LIGHT LV LB LE LK NI i.. NR r.. NT t..`: CALL is 0 for a run, 1 for the check alone, 2 for a run that is explained and 3 for a bare run;
 // LV, LB and LE are the lengths of the lists lent, of which a bare run takes the first; LK is not used, LIGHT is 0; i.. are the inputs, r.. the register list and t.. the table. Single spaces
 // part the numbers.
 #![tactic(auto)]
 
-ghost use Rattle.std.specs.Prelude.{◌≤◌, length};
-ghost use Rattle.cases.specs.Cases.{Parsed};
+ghost use Rattle.std.specs.Prelude.{◌≤◌, length, IfSome};
+ghost use Rattle.cases.specs.Cases.{Counted, StartsWith, Parsed};
 ghost use Rattle.cases.specs.Lines.{ScansLine};
 
-use stream::Part;
-use text::Scanner;
-use words::index;
+use stream::{Part, PartEnd};
+use text::{Scanner, State};
 
-// What the numbers of a line ask for: where the register list starts, for a run, and where the table does.
-#[derive(Clone, Copy)]
-pub enum Case {
-    Run(usize, usize),
-    Check(usize),
-    Explain(usize, usize),
-    Bare(usize, usize),
-    Malformed,
+// Words that stand after their count at the front of some numbers, and the numbers after them.
+fn take_counted(numbers: &[u32]) -> Option<(&[u32], &[u32])>
+    ensures { IfSome result (λ p. Counted p.0.now p.1.now numbers.now) }
+{
+    let (count, rest) = numbers.split_first()?;
+    rest.split_at_checked(*count as usize)
 }
 
-impl Case {
+// The program of a case: how many words it lends of each list, what it hands in, and its table.
+#[derive(Clone, Copy)]
+pub struct Program<'a> {
+    pub values: u32,
+    pub bases: u32,
+    pub ends: u32,
+    pub inputs: &'a [u32],
+    pub registers: &'a [u32],
+    pub table: &'a [u32],
+}
+
+impl<'a> Program<'a> {
+    // The program of the case that some numbers start with, and the numbers after it.
+    pub fn split(numbers: &'a [u32]) -> Option<(Program<'a>, &'a [u32])>
+        ensures { IfSome result (λ p. StartsWith numbers.now p.0 p.1.now) }
+    {
+        let [_, _, values, bases, ends, _, rest @ ..] = numbers else {
+            return None;
+        };
+        let (inputs, rest) = take_counted(rest)?;
+        let (registers, rest) = take_counted(rest)?;
+        let (table, rest) = take_counted(rest)?;
+        let program = Program {
+            values: *values,
+            bases: *bases,
+            ends: *ends,
+            inputs,
+            registers,
+            table,
+        };
+        Some((program, rest))
+    }
+}
+
+// What the numbers of a line ask for.
+#[derive(Clone, Copy)]
+pub enum Case<'a> {
+    Run(Program<'a>),
+    Check(&'a [u32]),
+    Explain(Program<'a>),
+    Bare(Program<'a>),
+}
+
+impl<'a> Case<'a> {
     // The most words of a list, entries of the block list, inputs, words of the register list, and words of the table.
     const LIST: u32 = 65537;
 
     const BLOCKS: u32 = 200;
 
-    const INPUTS: u32 = 100;
+    const INPUTS: usize = 100;
 
-    const REGISTERS: u32 = 70000;
+    const REGISTERS: usize = 70000;
 
-    const TABLE: u32 = 4000;
+    const TABLE: usize = 4000;
 
     // The most numbers of a case, and the most words of a list that it lends.
-    pub const NUMBERS: usize = 9 + (Case::INPUTS + Case::REGISTERS + Case::TABLE) as usize;
+    pub const NUMBERS: usize = 9 + Case::INPUTS + Case::REGISTERS + Case::TABLE;
 
     pub const WORDS: usize = Case::LIST as usize;
 
-    pub fn of(numbers: &[u32]) -> Case
+    // Whether the parts of a program are no longer than they may be.
+    fn allows(p: Program) -> bool {
+        p.values <= Case::LIST
+            && p.bases <= Case::LIST
+            && p.ends <= Case::LIST
+            && p.inputs.len() <= Case::INPUTS
+            && p.registers.len() <= Case::REGISTERS
+            && p.table.len() <= Case::TABLE
+    }
+
+    pub fn of(numbers: &'a [u32]) -> Option<Case<'a>>
         ensures { Parsed numbers.now result }
     {
-        let n = numbers.len();
-        if n < 9 {
-            return Case::Malformed;
+        let (program, rest) = Program::split(numbers)?;
+        if !rest.is_empty()
+            || numbers[1] != 0
+            || Case::BLOCKS < numbers[5]
+            || !Case::allows(program)
+        {
+            return None;
         }
-        if numbers[1] != 0 || Case::LIST < numbers[2] || Case::LIST < numbers[3] {
-            return Case::Malformed;
-        }
-        if Case::LIST < numbers[4] || Case::BLOCKS < numbers[5] || Case::INPUTS < numbers[6] {
-            return Case::Malformed;
-        }
-        let list = 8 + index(numbers[6]);
-        if n <= list || Case::REGISTERS < numbers[list - 1] {
-            return Case::Malformed;
-        }
-        let from = list + 1 + index(numbers[list - 1]);
-        if n < from || Case::TABLE < numbers[from - 1] {
-            return Case::Malformed;
-        }
-        if index(numbers[from - 1]) != n - from {
-            return Case::Malformed;
-        }
-        let call = numbers[0];
-        match call {
-            0 => Case::Run(list, from),
-            1 => Case::Check(from),
-            2 => Case::Explain(list, from),
-            3 => Case::Bare(list, from),
-            _ => Case::Malformed,
+        match numbers[0] {
+            0 => Some(Case::Run(program)),
+            1 => Some(Case::Check(program.table)),
+            2 => Some(Case::Explain(program)),
+            3 => Some(Case::Bare(program)),
+            _ => None,
         }
     }
 }
 
-// A line that was read: the part of the input that it ended with, whether there was one before the input's end, and how many numbers it has. A
-// line of anything but numbers that single spaces part has none.
+// A line that was read: the part of the input that it ended with, and how many numbers it has, or that the input ended before it. A line of
+// anything but numbers that single spaces part has 0.
 #[derive(Clone, Copy)]
 pub struct Line {
     pub part: Part,
-    pub found: bool,
-    pub count: usize,
+    pub count: Option<usize>,
+}
+
+// How the bytes of a line end, so far.
+#[derive(Clone, Copy, PartialEq, Eq)]
+enum Spacing {
+    Empty,
+    Space,
+    Other,
+    // The line starts with a space, or has two together.
+    Bad,
+}
+
+impl Spacing {
+    fn after(self, b: u8) -> Spacing {
+        match (self, b) {
+            (Spacing::Bad, _) => Spacing::Bad,
+            (Spacing::Other, b' ') => Spacing::Space,
+            (_, b' ') => Spacing::Bad,
+            _ => Spacing::Other,
+        }
+    }
 }
 
 // A line so far: the part of the input that was read last, its numbers, and how its bytes end.
@@ -88,39 +144,7 @@ pub struct Line {
 struct Progress {
     part: Part,
     scanner: Scanner,
-    spacing: u32,
-}
-
-impl Progress {
-    const EMPTY: u32 = 0;
-
-    const SPACE: u32 = 1;
-
-    const OTHER: u32 = 2;
-
-    // It starts with a space, or has two together.
-    const BAD: u32 = 3;
-}
-
-fn after_byte(spacing: u32, b: u8) -> u32 {
-    if spacing == Progress::BAD {
-        return Progress::BAD;
-    }
-    if b != 32 {
-        return Progress::OTHER;
-    }
-    if spacing == Progress::OTHER {
-        return Progress::SPACE;
-    }
-    Progress::BAD
-}
-
-fn after_bytes(spacing: u32, bytes: &[u8]) -> u32 {
-    let mut spacing = spacing;
-    for i in 0..bytes.len() {
-        spacing = after_byte(spacing, bytes[i]);
-    }
-    spacing
+    spacing: Spacing,
 }
 
 // Reads and scans the next part of a line.
@@ -129,57 +153,74 @@ fn take_part(rt: HostRuntime, buffer: &mut [u8], numbers: &mut [u32], p: Progres
     ensures { ScansLine numbers.new result.scanner }
 {
     let part = stream::next_part(rt, buffer, p.part, b'\n');
-    let from = part.from;
-    let to = part.to;
+    let bytes = &buffer[part.from..part.to];
     Progress {
         part,
-        scanner: text::scan(&buffer[from..to], numbers, p.scanner),
-        spacing: after_bytes(p.spacing, &buffer[from..to]),
+        scanner: text::scan(bytes, numbers, p.scanner),
+        spacing: bytes.iter().fold(p.spacing, |spacing, b| spacing.after(*b)),
     }
 }
 
 // Ends a line. The input's end ends a line that has bytes.
 fn finish_line(numbers: &mut [u32], p: Progress) -> Line
     requires { ScansLine numbers.old p.scanner }
-    ensures { result.count ≤ length numbers.new }
+    ensures { IfSome result.count (λ n. n ≤ length numbers.new) }
 {
     let part = p.part;
     let s = text::finish(numbers, p.scanner);
-    if p.spacing != Progress::OTHER || s.state == Scanner::BAD {
-        return Line {
-            part,
-            found: part.state != Part::LAST || p.spacing != Progress::EMPTY,
-            count: 0,
-        };
+    let count = match (p.spacing, s.state) {
+        (Spacing::Empty, _) if part.end == PartEnd::Last => None,
+        (Spacing::Other, State::Between) => Some(s.count),
+        _ => Some(0),
+    };
+    Line { part, count }
+}
+
+// The line after the part `last`; its numbers are stored.
+pub fn next_line(rt: HostRuntime, buffer: &mut [u8], numbers: &mut [u32], last: Part) -> Line
+    ensures { IfSome result.count (λ n. n ≤ length numbers.new) }
+{
+    let mut p = Progress {
+        part: last,
+        scanner: Scanner::new(),
+        spacing: Spacing::Empty,
+    };
+    // A proved loop has to end, so this one has more turns than a line uses up.
+    for _ in 0..u64::MAX {
+        p = take_part(rt, buffer, numbers, p);
+        if p.part.end != PartEnd::Open {
+            break;
+        }
     }
-    Line {
-        part,
-        found: true,
-        count: s.count,
+    finish_line(numbers, p)
+}
+
+// Hands over the numbers of each line of the input.
+pub fn for_each_line<Step: FnMut(&[u32])>(
+    rt: HostRuntime,
+    buffer: &mut [u8],
+    numbers: &mut [u32],
+    step: Step,
+)
+    requires { Step.IsAlwaysCallable step }
+{
+    let mut step = step;
+    let mut part = Part::new();
+    // As in `next_line`.
+    for _ in 0..u64::MAX {
+        let line = next_line(rt, buffer, numbers, part);
+        if let Some(count) = line.count {
+            step(&numbers[..count]);
+        }
+        part = line.part;
+        if part.end == PartEnd::Last {
+            break;
+        }
     }
 }
 
-// The line after the part `last`; its numbers are stored. A proved loop has to end, so this one counts its turns down from a number that no
-// line uses up.
-pub fn next_line(rt: HostRuntime, buffer: &mut [u8], numbers: &mut [u32], last: Part) -> Line
-    ensures { result.count ≤ length numbers.new }
-{
-    let mut p = take_part(
-        rt,
-        buffer,
-        numbers,
-        Progress {
-            part: last,
-            scanner: Scanner::new(),
-            spacing: Progress::EMPTY,
-        },
-    );
-    let mut state = p.part.state;
-    let mut turns = u64::MAX;
-    while turns > 0 && state == Part::OPEN {
-        p = take_part(rt, buffer, numbers, p);
-        state = p.part.state;
-        turns -= 1;
-    }
-    finish_line(numbers, p)
+// The first n words of a list: what a case lends of it. A case lends no more words than `Case::WORDS`.
+pub fn front(list: &mut [u32], n: u32) -> &mut [u32] {
+    let n = list.len().min(n as usize);
+    &mut list[..n]
 }

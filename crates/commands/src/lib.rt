@@ -1,54 +1,48 @@
 // The commands of a table, one after the other: the place, the value, the store.
 #![tactic(auto)]
 
-ghost use Rattle.std.specs.Prelude.{◌≡◌, map, ◌<◌, ◌^◌, length};
-ghost use Rattle.words.specs.Columns.{column};
+ghost use Rattle.std.specs.Prelude.{◌+◌};
+ghost use Rattle.steps.specs.Answers.{SameLists, Inside};
 ghost use Rattle.commands.specs.Command.{CommandReady, Stored, CommandAnswered};
-ghost use Rattle.commands.specs.Execution.{Executable, Executed};
+ghost use Rattle.commands.specs.Execution.{lists, Executable, Executed};
 
 use evaluator::{assigned, result};
-use lookups::{Lists, bounds_of};
-use steps::{BASE, BASES, END, ENDS, FAILED, FailedCheck, Memory, Slots, UNUSED, VALUES, failure};
-use words::{index, low};
+use lookups::Lists;
+use steps::{FailedCheck, Halt, Memory, Slots, worked_out};
 
-// How a run ended: done with U; aborted with command number, U and the check that was not passed; out of memory with command number and U.
+// How a run ended: done with U; aborted with command number, U and a cause; out of memory with command number and U.
 #[derive(Clone, Copy)]
-pub enum Ended {
+pub enum Ending<C> {
     Done(u32),
-    Abort(u32, u32, FailedCheck),
+    Abort(u32, u32, C),
     NoRoom(u32, u32),
 }
 
 // Stores a value, and its bounds unless `bounds` is 0.
 fn store(m: &mut Memory, at: usize, bounds: u32, v: u32, base: u32, end: u32)
-    requires { (at < 2 ^ 32) × (at < length (column (map (λ x. x.now) m.old) 0)) × (at < length (column (map (λ x. x.now) m.old) 1)) × (at < length (column (map (λ x. x.now) m.old) 2)) }
-    ensures { (Stored bounds at v base end (map (λ x. x.now) m.old) (map (λ x. x.now) m.new)) × (map (λ x. x.ghost_name) m.new ≡ map (λ x. x.ghost_name) m.old) }
+    requires { Inside (at + 1) m.old }
+    ensures stored { Stored bounds at v base end m.old m.new }
+    ensures same_lists { SameLists m.old m.new }
 {
-    m[VALUES][at] = v;
-    if bounds == 0 {
-        return;
+    m.values[at] = v;
+    if bounds != 0 {
+        m.bases[at] = base;
+        m.ends[at] = end;
     }
-    m[BASES][at] = base;
-    m[ENDS][at] = end;
 }
 
-// One command: the place, the value, the store. Answers 0, or how evaluation ended.
-fn command(l: &Lists, m: &mut Memory, p: usize, v: usize, s: &mut Slots) -> u64
-    requires { CommandReady (map (λ x. x.now) l.now) (map (λ x. x.now) m.old) p v s.old }
-    ensures { (CommandAnswered (map (λ x. x.now) l.now) (map (λ x. x.now) m.old) p v s.old result (map (λ x. x.now) m.new) s.new) × (map (λ x. x.ghost_name) m.new ≡ map (λ x. x.ghost_name) m.old) }
+// One command: the place, the value, the store.
+fn command(l: &Lists, m: &mut Memory, p: usize, v: usize, s: &mut Slots) -> Result<(), Halt>
+    requires { CommandReady l.now m.old p v s.old }
+    ensures answered { CommandAnswered l.now m.old p v s.old result m.new s.new }
+    ensures same_lists { SameLists m.old m.new }
 {
-    let at = assigned(l, m, p, s);
-    if FAILED <= at {
-        return at;
-    }
+    let at = worked_out(assigned(l, m, p, s))?;
     // Before the value, which can write to memory: the compiler then reads the note once, here and in `result`.
-    let bounds = bounds_of(l, v);
-    let r = result(l, m, v, s);
-    if FAILED <= r {
-        return r;
-    }
-    store(m, index(low(at)), bounds, low(r), s[BASE], s[END]);
-    0
+    let bounds = l.bounds_of(v);
+    let r = worked_out(result(l, m, v, s))?;
+    store(m, at as usize, bounds, r as u32, s.base, s.end);
+    Ok(())
 }
 
 // The commands in order, up to the first that does not end well. Each stands as a place node and a value node. U is `first`, and the block that
@@ -60,25 +54,31 @@ pub fn execute(
     l: &Lists,
     first: u32,
     watched: u32,
-    m: &mut Memory,
-) -> Ended
-    requires { Executable t.now (map (λ x. x.now) l.now) at total first watched (map (λ x. x.now) m.old) }
-    ensures { (Executed t.now (map (λ x. x.now) m.old) first watched result (map (λ x. x.now) m.new)) × (map (λ x. x.ghost_name) m.new ≡ map (λ x. x.ghost_name) m.old) }
+    values: &mut [u32],
+    bases: &mut [u32],
+    ends: &mut [u32],
+) -> Ending<FailedCheck>
+    requires { Executable t.now l.now at total first watched (lists values.old bases.old ends.old) }
+    ensures { Executed t.now (lists values.old bases.old ends.old) first watched result (lists values.new bases.new ends.new) }
 {
-    let mut s = [0, 0, first, 0, 0, 0, 0, watched, 0];
-    let mut c = 0;
-    while c < total {
-        let k = at + 2 * index(c);
-        let p = index(t[k]);
-        let v = index(t[k + 1]);
-        let r = command(l, m, p, v, &mut s);
-        if r == FAILED {
-            return Ended::Abort(c, s[UNUSED], failure(&s));
+    let mut m = Memory {
+        values,
+        bases,
+        ends,
+    };
+    let mut s = Slots {
+        unused: first,
+        limit: watched,
+        ..Slots::default()
+    };
+    // By number: an ending tells the number of its command.
+    for c in 0..total {
+        let k = at + 2 * c as usize;
+        match command(l, &mut m, t[k] as usize, t[k + 1] as usize, &mut s) {
+            Ok(()) => {}
+            Err(Halt::Failed) => return Ending::Abort(c, s.unused, s.failure()),
+            Err(Halt::NoRoom) => return Ending::NoRoom(c, s.unused),
         }
-        if FAILED < r {
-            return Ended::NoRoom(c, s[UNUSED]);
-        }
-        c += 1;
     }
-    Ended::Done(s[UNUSED])
+    Ending::Done(s.unused)
 }

@@ -1,4 +1,5 @@
 -- Laws of what is printed: the loop over the memory, the bytes of a call, and what the lists of a call matter to them.
+use Rattle.std.specs.Prelude.{Option, Some, None}
 use Prim.Native.Nat.{ℕ, zero, suc, ◌+◌, ◌*◌, ◌-◌, ◌≤◌, ◌<◌}
 use mathlib.Core.Bool.{true, false, false≢true}
 use mathlib.Core.List.{List, [], ◌∷◌, ◌++◌}
@@ -10,63 +11,52 @@ use lib.ListN.{length, take, drop, get_or, replicate, length-replicate}
 use lib.Seq.{length-take-le}
 use Rattle.semantics.specs.Words.{Words}
 use Rattle.semantics.specs.Check.{Verdict, passes, refused, call_fault}
-use Rattle.semantics.specs.Run.{Answer, refusal, Result, call_by, call}
+use Rattle.semantics.specs.Run.{Answer, Result, call_by, call}
 use Rattle.semantics.proofs.Safety.{spatial_safety, unused_fits}
-use Rattle.stream.specs.Items.{item_room, room_of, PutsItems}
-use Rattle.stream.proofs.Items.{room_both, puts_none, puts_word, puts_then}
-use Rattle.text.specs.Decimal.{Puts}
+use Rattle.stream.specs.Items.{item_room, room_of, Prints}
+use Rattle.stream.proofs.Items.{room_both, prints_none, prints_word, prints_then}
+use Rattle.text.specs.Decimal.{PutsIn}
+use Rattle.text.specs.declared.Output.{Output}
 use Rattle.text.specs.Scan.{Finishes}
 use Rattle.text.specs.declared.Scanner.{Scanner}
-use Rattle.request.specs.Request.{Demand, run, input, demand, stored, request_of, Requested}
-use Rattle.request.proofs.Demands.{all_true}
+use Rattle.request.specs.Request.{Demand, run, input, demand, stored, request_of, Parts, Requested}
+use Rattle.request.proofs.Demands.{all_true, text_demand}
 use Rattle.request.specs.declared.Request.{Request}
-use Rattle.request.specs.declared.Request.TheVariants.{Run, Malformed}
 use Rattle.lines.proofs.Lines.{word_room, ending_room}
 use Rattle.machine.specs.Run.{answer_of, Is}
-use Rattle.machine.specs.declared.Answer as machine_answer
+use Rattle.std.specs.Prelude as std
+use Rattle.layout.specs.declared.Refusal.{Refusal}
+use Rattle.commands.specs.declared.Ending.{Ending}
 use Rattle.lines.specs.Lines.{ending_line, unused, word_line}
-use Rattle.console.specs.Output.{lines_to, memory_lines, answer_lines, input_line, result_bytes, Lists, lists, call_in, output, over, lists_after, has_room, outcome_of, finished, answered, Answers, Called, Ran}
-use Rattle.console.specs.declared.Output.TheVariants.{Printed, TooShort}
+use Rattle.console.specs.Output.{lines_to, memory_lines, answer_lines, input_line, result_bytes, Lists, lists, lists_of, call_in, output, over, lists_after, has_room, outcome_of, finished, answered, Answers, Holds, Printed, Called, Ran}
+use Rattle.steps.specs.declared.Memory.{Memory}
 
 -- ---- the loop over the memory
 
-module _ (vs bs es out₀ : List ℕ) (at unused : ℕ) where
+module _ (vs bs es : List ℕ) (unused : ℕ) (out₀ : Output) where
   -- The lines of the words 1 to i - 1 are put.
-  pub record Printing (out : List ℕ) (at' i : ℕ) : Type 0 where
-    pub same : length out ≡ length out₀
+  pub record Printing (out : Output) (i : ℕ) : Type 0 where
     pub from : 1 ≤ i
     pub until : i - 1 ≤ unused - 1
-    pub put : PutsItems (lines_to (i - 1) vs bs es) out₀ at out at'
+    pub put : Prints (lines_to (i - 1) vs bs es) out₀ out
 
-  pub printing_none : Printing out₀ at 1
+  pub printing_none : Printing out₀ 1
   unfolding lines_to
-  printing_none = record { same = refl; from = omega arith; until = omega arith; put = puts_none out₀ at }
+  printing_none = record { from = omega arith; until = omega arith; put = prints_none out₀ }
 
-  pub printing_more : {out : List ℕ} {at' : ℕ} (i : ℕ) → Printing out at' i → i < unused
-      → {out' : List ℕ} {r : ℕ} → PutsItems (word_line i (get_or vs i 0) (get_or bs i 0) (get_or es i 0)) out at' out' r → length out' ≡ length out
-      → Printing out' r (i + 1)
+  pub printing_more : {out out' : Output} (i : ℕ) → Printing out i → i < unused → Prints (word_line i (get_or vs i 0) (get_or bs i 0) (get_or es i 0)) out out'
+      → Printing out' (i + 1)
   unfolding lines_to
-  printing_more zero p less puts e = absurd (let h = p.from in omega arith)
-  printing_more (suc n) p less puts e =
-      let same = p.same in
+  printing_more zero p less puts = absurd (let h = p.from in omega arith)
+  printing_more (suc n) p less puts =
       let here : suc n + 1 - 1 ≡ suc n = omega arith in
       let before : suc n - 1 ≡ n = omega arith in
-      record { same = omega arith; from = omega arith; until = omega arith; put = rw here (puts_then (rw before at p.put) puts) }
-
-  pub printing_all : {out : List ℕ} {at' : ℕ} {i : ℕ} → Printing out at' i → unused ≤ i → PutsItems (memory_lines unused vs bs es) out₀ at out at'
-  printing_all {out} {at'} {i} p all =
-      let until = p.until in
-      let last : i - 1 ≡ unused - 1 = omega arith in
-      rw last at p.put
+      record { from = omega arith; until = omega arith; put = rw here (prints_then (rw before at p.put) puts) }
 
 -- By the calls of `put_answer` in turn: `put_ending`, `put_bytes`, `unused_after` and `put_memory`.
-pub puts_answer : (a : Answer) (vs bs es : Words) {out : List ℕ} {at : ℕ}
-    → {out₁ : List ℕ} {r₁ : ℕ} → PutsItems (ending_line a) out at out₁ r₁
-    → {out₂ : List ℕ} {r₂ : ℕ} → Puts 1 (10 ∷ []) out₁ r₁ out₂ r₂
-    → {u : ℕ} → u ≡ unused a
-    → {out₃ : List ℕ} {r₃ : ℕ} → PutsItems (memory_lines u vs bs es) out₂ r₂ out₃ r₃
-    → PutsItems (answer_lines a vs bs es) out at out₃ r₃
-puts_answer a vs bs es first second e third = puts_then first (puts_then (puts_word second) (rw e at third))
+pub prints_answer : (a : Answer) (vs bs es : Words) {out out₁ out₂ out₃ : Output} → Prints (ending_line a) out out₁ → PutsIn 1 (10 ∷ []) out₁ out₂
+    → {u : ℕ} → u ≡ unused a → Prints (memory_lines u vs bs es) out₂ out₃ → Prints (answer_lines a vs bs es) out out₃
+prints_answer a vs bs es first second e third = prints_then first (prints_then (prints_word second) (rw e at third))
 
 -- ---- the room that the lines take
 
@@ -112,18 +102,32 @@ module _ (t inputs registers vs bs es : Words) where
   fits = fits_by (call_fault t inputs registers (length vs) (length bs) (length es)) refl
 
 -- What `run_and_print` leaves, by its two calls: `machine::run` and `put_answer`.
-module _ (c : Result) (n : ℕ) (f : Fits c n) (a : machine_answer.Answer) (vs bs es : Words) (is : Is c a vs bs es) where
-  pub in_lists : (unused (answer_of a) ≤ length vs) × (unused (answer_of a) ≤ length bs) × (unused (answer_of a) ≤ length es)
-  in_lists = rw (is.answer, is.values, is.bases, is.ends) (f.values, f.bases, f.ends)
+module _ (c : Result) (n : ℕ) (f : Fits c n) (a : std.Result (Ending std.⊤) Refusal) (vs bs es : Words) (is : Is c a vs bs es) where
+  pub in_memory : {m : Memory} → lists_of m ≡ lists vs bs es → Holds m (unused (answer_of a))
+  in_memory {m} same =
+      let v = f.values in
+      let b = f.bases in
+      let e = f.ends in
+      let vl : length m.values.now ≡ length c.values = ap (λ l. length l.values) same ∙ ap length is.values in
+      let bl : length m.bases.now ≡ length c.bases = ap (λ l. length l.bases) same ∙ ap length is.bases in
+      let el : length m.ends.now ≡ length c.ends = ap (λ l. length l.ends) same ∙ ap length is.ends in
+      let u : unused (answer_of a) ≡ unused c.answer = ap unused is.answer in
+      record { values = omega arith; bases = omega arith; ends = omega arith }
 
-  pub called : {out out' : List ℕ} {r : ℕ} → n ≤ 4096 → 344064 ≤ length out → PutsItems (answer_lines (answer_of a) vs bs es) out 0 out' r → Called c out vs bs es out' r
+  pub called : {out out' : Output} → n ≤ 4096 → 344064 ≤ length out.bytes.now → out.at ≡ 0 → Prints (answer_lines (answer_of a) vs bs es) out out'
+      → Called c (lists vs bs es) out out'
   unfolding result_bytes
-  called {out} {out'} {r} small room puts =
+  called {out} {out'} small room front p =
       let u = f.most in
       let size = answer_room (answer_of a) vs bs es (rw is.answer (omega arith)) in
-      let put = rw (is.answer, is.values, is.bases, is.ends) at (puts.fits (omega arith)) in
-      let start : 0 + length (result_bytes c) ≡ length (result_bytes c) = omega arith in
-      record { values = is.values; bases = is.bases; ends = is.ends; printed = rw start at put.0; count = rw start at put.1 }
+      let put = rw (is.answer, is.values, is.bases, is.ends) at (p.puts.fits (omega arith)) in
+      let start : out.at + length (result_bytes c) ≡ length (result_bytes c) = omega arith in
+      record {
+        values = is.values;
+        bases = is.bases;
+        ends = is.ends;
+        printed = record { same_bytes = p.same_bytes; printed = rw (start, front) at put.0; count = rw start at put.1 };
+      }
 
 -- What is printed depends on the length of the lists alone: a run clears them, and a refusal prints none of their words.
 module _ (t inputs registers vs bs es vs' bs' es' : Words) (v_length : length vs ≡ length vs') (b_length : length bs ≡ length bs') (e_length : length es ≡ length es') where
@@ -136,27 +140,25 @@ module _ (t inputs registers vs bs es vs' bs' es' : Words) (v_length : length vs
   unfolding call
   same_bytes = rw (v_length, b_length, e_length) (same_by (call_fault t inputs registers (length vs') (length bs') (length es')))
 
--- ---- a request for a run: the call is in `&mut values[0..memory]`, of memory - 0 words, and so for the two other lists
+-- ---- a request for a run, in the first words of three lists
 
-module _ (old new : Words) (memory n : ℕ) (words : n ≡ memory) (h : memory ≤ length old) (e : length new ≡ length (take n old)) where
-  front : new ++ drop n old ≡ over new old
+module _ (old new : Words) (memory : ℕ) (h : memory ≤ length old) (e : length new ≡ length (take memory old)) where
+  front : new ++ drop memory old ≡ over new old
   front =
-      let l = length-take-le n old (omega arith) in
-      let place : n ≡ length new = omega arith in
-      rw place
+      let l = length-take-le memory old h in
+      let place : memory ≡ length new = omega arith in
+      ap (λ n. new ++ drop n old) place
 
 module _ (t inputs vs bs es : Words) (memory : ℕ) (v : memory ≤ length vs) (b : memory ≤ length bs) (e : memory ≤ length es) where
-  pub ran : {vs' bs' es' out out' : List ℕ} {r : ℕ} → Called (call t inputs (0 ∷ []) (take (memory - 0) vs) (take (memory - 0) bs) (take (memory - 0) es)) out vs' bs' es' out' r
-      → length vs' ≡ length (take (memory - 0) vs) → length bs' ≡ length (take (memory - 0) bs) → length es' ≡ length (take (memory - 0) es)
-      → Ran (call_in (lists vs bs es) memory inputs t) (lists vs bs es) out (lists (vs' ++ drop (memory - 0) vs) (bs' ++ drop (memory - 0) bs) (es' ++ drop (memory - 0) es)) out' r
+  pub ran : {vs' bs' es' : Words} {out out' : Output} → Called (call t inputs (0 ∷ []) (take memory vs) (take memory bs) (take memory es)) (lists vs' bs' es') out out'
+      → length vs' ≡ length (take memory vs) → length bs' ≡ length (take memory bs) → length es' ≡ length (take memory es)
+      → Ran (call_in (lists vs bs es) memory inputs t) (lists vs bs es) (lists (vs' ++ drop memory vs) (bs' ++ drop memory bs) (es' ++ drop memory es)) out out'
   unfolding call_in
-  ran {vs'} {bs'} {es'} {out} {out'} {r} c lv lb le =
-      let all : memory - 0 ≡ memory = omega arith in
-      let c' = rw all at c in
-      let front_v = front vs vs' memory (memory - 0) all v lv ∙ ap (λ l. over l vs) c'.values in
-      let front_b = front bs bs' memory (memory - 0) all b lb ∙ ap (λ l. over l bs) c'.bases in
-      let front_e = front es es' memory (memory - 0) all e le ∙ ap (λ l. over l es) c'.ends in
-      record { left = cc; printed = c'.printed; count = c'.count }
+  ran {vs'} {bs'} {es'} c lv lb le =
+      let front_v = front vs vs' memory v lv ∙ ap (λ l. over l vs) c.values in
+      let front_b = front bs bs' memory b lb ∙ ap (λ l. over l bs) c.bases in
+      let front_e = front es es' memory e le ∙ ap (λ l. over l es) c.ends in
+      record { left = cc; printed = c.printed }
 
 -- ---- an answer
 
@@ -174,46 +176,65 @@ room values bases ends out e =
     let q = all_true (leb 4096 values) (leb 4096 bases) (leb 4096 ends) (leb 344064 out) e in
     (leb-true _ _ q.0, leb-true _ _ q.1, leb-true _ _ q.2, leb-true _ _ q.3)
 
-asks_nothing : (d : Demand) → Malformed ≡ request_of d → d ≡ input
+asks_nothing : (d : Demand) → None ≡ request_of d → d ≡ input
 asks_nothing input e = refl
-asks_nothing (run memory inputs table) e = absurd (let z : ◌≡◌ {A = ℕ} 0 1 = cc in omega arith)
+asks_nothing (run memory inputs table) e = absurd cc
+
+-- What `print_request` leaves, by what the numbers of a scanner ask for.
+module _ (numbers : Words) (s : Scanner) {r : Option Request} (q : Requested numbers s r) where
+  module _ {a : Request} (e : r ≡ Some a) where
+    pub parts : Parts numbers s a.memory a.from
+    parts = q.parts a e
+
+    pub left_by_run : {l l' : Lists} {out out' : Output} → Ran (call_in l a.memory (take (a.from - 2) (drop 2 numbers)) (take (s.count - a.from) (drop a.from numbers))) l l' out out'
+        → l' ≡ lists_after (demand (stored numbers s)) l
+    unfolding lists_after
+    left_by_run {l} c = c.left ∙ ap (λ d. lists_after d l) (sym parts.asked)
+
+    pub printed_by_run : {m : Memory} {l' : Lists} {out out' : Output} → Holds m 4096
+        → Ran (call_in (lists_of m) a.memory (take (a.from - 2) (drop 2 numbers)) (take (s.count - a.from) (drop a.from numbers))) (lists_of m) l' out out'
+        → Printed (output (demand (stored numbers s))) out out'
+    printed_by_run {m} h c =
+        let most = parts.most in
+        let v = h.values in
+        let b = h.bases in
+        let e = h.ends in
+        let bytes =
+        own_bytes (lists_of m) a.memory (take (a.from - 2) (drop 2 numbers)) (take (s.count - a.from) (drop a.from numbers)) most (omega arith) (omega arith) (omega arith)
+        ∙ ap output (sym parts.asked) in
+        rw bytes at c.printed
+
+  module _ (e : r ≡ None) where
+    nothing : demand (stored numbers s) ≡ input
+    nothing = asks_nothing (demand (stored numbers s)) (sym e ∙ q.does)
+
+    pub left_by_input : {l : Lists} → l ≡ lists_after (demand (stored numbers s)) l
+    unfolding lists_after
+    left_by_input {l} = ap (λ d. lists_after d l) (sym nothing)
+
+    pub printed_by_input : {out out' : Output} → 344064 ≤ length out.bytes.now → out.at ≡ 0 → PutsIn 6 input_line out out' → Printed (output (demand (stored numbers s))) out out'
+    unfolding output
+    printed_by_input room first p =
+        let put = rw first at (p.puts.fits (omega arith)) in
+        rw nothing (record { same_bytes = p.same_bytes; printed = put.0; count = put.1 })
 
 module _ (s : Scanner) (numbers : Words) (l : Lists) (out : List ℕ) where
-  pub too_short : has_room (length l.values) (length l.bases) (length l.ends) (length out) ≡ false → Answers s numbers l out numbers l out TooShort
+  pub too_short : has_room (length l.values) (length l.bases) (length l.ends) (length out) ≡ false → Answers s numbers l out numbers l out None
   unfolding answered
   too_short e = record { does = rw e; meets = λ text k h room. absurd (false≢true (sym e ∙ room)) }
 
-  module _ (has : has_room (length l.values) (length l.bases) (length l.ends) (length out) ≡ true) {s' : Scanner} {numbers' : Words} (f : Finishes s numbers s' numbers') (r : Request) (q : Requested numbers' s' r) where
-    -- By the output of what is asked for.
-    answers : (n : ℕ) (l' : Lists) (out' : List ℕ) → n ≡ length (output (demand (stored numbers' s'))) → l' ≡ lists_after (demand (stored numbers' s')) l
-        → out' ≡ over (output (demand (stored numbers' s'))) out → length numbers' ≡ length numbers → Answers s numbers l out numbers' l' out' (Printed n)
-    unfolding answered finished outcome_of
-    answers n l' out' count left printed same =
-        record {
-          does = rw (has, ← f.does, count, left, printed);
-          meets =
-              λ text k h room.
-              let asked = q.meets text (rw same h) (f.meets text k) in
-              (ap Printed (count ∙ ap (λ d. length (output d)) asked), printed ∙ ap (λ d. over (output d) out) asked);
-        }
-
-    pub answers_run : {memory from : ℕ} → r ≡ Run memory from → length numbers' ≡ length numbers → {n : ℕ} {l' : Lists} {out' : List ℕ}
-        → Ran (call_in l memory (take (from - 2) (drop 2 numbers')) (take (s'.count - from) (drop from numbers'))) l out l' out' n
-        → Answers s numbers l out numbers' l' out' (Printed n)
-    unfolding lists_after
-    answers_run {memory} {from} e same {n} {l'} {out'} c =
-        let enough = room _ _ _ _ has in
-        let parts = q.parts memory from e in
-        let most = parts.most in
-        let asked = sym parts.asked in
-        let bytes = own_bytes l memory (take (from - 2) (drop 2 numbers')) (take (s'.count - from) (drop from numbers')) most (omega arith) (omega arith) (omega arith) ∙ ap output asked in
-        answers n l' out' (c.count ∙ ap length bytes) (c.left ∙ ap (λ d. lists_after d l) asked) (c.printed ∙ ap (λ b. over b out) bytes) same
-
-    pub answers_input : r ≡ Malformed → length numbers' ≡ length numbers → {n : ℕ} {out' : List ℕ} → Puts 6 input_line out 0 out' n
-        → Answers s numbers l out numbers' l out' (Printed n)
-    unfolding lists_after output
-    answers_input e same {n} {out'} p =
-        let enough = room _ _ _ _ has in
-        let asked = sym (asks_nothing (demand (stored numbers' s')) (sym e ∙ q.does)) in
-        let put = p.fits (omega arith) in
-        answers n l out' (put.1 ∙ ap (λ d. length (output d)) asked) (ap (λ d. lists_after d l) asked) (put.0 ∙ ap (λ d. over (output d) out) asked) same
+  -- By the calls of `finish` and `print_request`, in an output that is `out` lent.
+  pub answers : has_room (length l.values) (length l.bases) (length l.ends) (length out) ≡ true → {s' : Scanner} {numbers' : Words} → Finishes s numbers s' numbers'
+      → length numbers' ≡ length numbers → {l' : Lists} → l' ≡ lists_after (demand (stored numbers' s')) l
+      → {page page' : Output} → Printed (output (demand (stored numbers' s'))) page page' → page.bytes.now ≡ out → {out' : List ℕ} → out' ≡ page'.bytes.now
+      → Answers s numbers l out numbers' l' out' (Some page'.at)
+  unfolding answered finished outcome_of
+  answers has {s'} {numbers'} f same left {page} {page'} p start {out'} end =
+      let put : out' ≡ over (output (demand (stored numbers' s'))) out = end ∙ (rw start at p.printed) in
+      record {
+        does = rw (has, ← f.does, p.count, left, put);
+        meets =
+            λ text k h room.
+            let asked = text_demand numbers' s' text (rw same h) (f.meets text k) in
+            (ap Some (p.count ∙ ap (λ d. length (output d)) asked), put ∙ ap (λ d. over (output d) out) asked);
+      }

@@ -1,5 +1,5 @@
 -- Document 01, "The bench program": what is printed for a text, and what is left in the lists that the program lends.
-use Rattle.std.specs.Prelude.{ℕ, zero, suc, ◌-◌, ◌≤◌, Bool, true, ◌&&◌, List, [], ◌∷◌, ◌++◌, ◌≡◌, leb, length, take, drop, get_or, replicate, if◌then◌else◌}
+use Rattle.std.specs.Prelude.{ℕ, zero, suc, ◌-◌, ◌≤◌, Bool, true, ◌&&◌, List, [], ◌∷◌, ◌++◌, ◌≡◌, Option, Some, None, leb, length, take, drop, get_or, replicate, if◌then◌else◌}
 use Rattle.text.specs.Numbers as contents
 use Rattle.text.specs.Scan.{Held, held, end_number, Scanned}
 use Rattle.text.specs.declared.Scanner.{Scanner}
@@ -8,8 +8,8 @@ use Rattle.semantics.specs.Run.{Answer, Result, call}
 use Rattle.stream.specs.Items.{Item, bytes_of}
 use Rattle.request.specs.Request.{Demand, run, input, demand, stored}
 use Rattle.lines.specs.Lines.{line_end, ending_line, unused, word_line}
-use Rattle.console.specs.declared.Output.{Output}
-use Rattle.console.specs.declared.Output.TheVariants.{Printed, TooShort}
+use Rattle.text.specs.declared.Output.{Output}
+use Rattle.steps.specs.declared.Memory.{Memory}
 
 -- ---- what is printed
 
@@ -43,6 +43,9 @@ pub record Lists : Type 0 where
 
 abbrev pub lists : Words → Words → Words → Lists
 lists values bases ends = record { values = values; bases = bases; ends = ends }
+
+abbrev pub lists_of : Memory → Lists
+lists_of m = lists m.values.now m.bases.now m.ends.now
 
 -- The call in the first `memory` words of three lists. "The bench program hands in the list `0`."
 unfoldable pub call_in : Lists → (memory : ℕ) (inputs table : Words) → Result
@@ -81,17 +84,17 @@ has_room values bases ends out = leb 4096 values && leb 4096 bases && leb 4096 e
 
 -- What is answered, and the five lists at the end.
 pub record Outcome : Type 0 where
-  pub answer : Output
+  pub answer : Option ℕ
   pub numbers : Words
   pub lists : Lists
   pub out : List ℕ
 
-abbrev pub outcome : Output → Words → Lists → List ℕ → Outcome
+abbrev pub outcome : Option ℕ → Words → Lists → List ℕ → Outcome
 outcome r numbers l out = record { answer = r; numbers = numbers; lists = l; out = out }
 
 -- Bytes that are printed stand at the front of the output.
 unfoldable pub outcome_of : Demand → Words → Lists → List ℕ → Outcome
-outcome_of d numbers l out = outcome (Printed (length (output d))) numbers (lists_after d l) (over (output d) out)
+outcome_of d numbers l out = outcome (Some (length (output d))) numbers (lists_after d l) (over (output d) out)
 
 -- The text is finished, and its numbers ask for something. Lists that are too short are left as they are.
 unfoldable pub finished : Held → Lists → List ℕ → Outcome
@@ -101,27 +104,37 @@ unfoldable pub answered : Scanner → Words → Lists → List ℕ → Outcome
 answered s numbers l out =
     if has_room (length l.values) (length l.bases) (length l.ends) (length out)
     then finished (end_number (held s numbers)) l out
-    else outcome TooShort numbers l out
+    else outcome None numbers l out
 
-pub record Answers (s : Scanner) (numbers : Words) (l : Lists) (out : List ℕ) (numbers' : Words) (l' : Lists) (out' : List ℕ) (r : Output) : Type 0 where
+pub record Answers (s : Scanner) (numbers : Words) (l : Lists) (out : List ℕ) (numbers' : Words) (l' : Lists) (out' : List ℕ) (r : Option ℕ) : Type 0 where
   pub does : outcome r numbers' l' out' ≡ answered s numbers l out
   -- After a text has been scanned: what stands in the output is what the bench program prints for this text.
   pub meets : (text : List ℕ) → Scanned text numbers s → 2538 ≤ length numbers
       → has_room (length l.values) (length l.bases) (length l.ends) (length out) ≡ true
-      → (r ≡ Printed (length (output_of text))) × (out' ≡ over (output_of text) out)
+      → (r ≡ Some (length (output_of text))) × (out' ≡ over (output_of text) out)
 
 -- ---- the functions that `answer` calls
 
--- A call is run in three lists, and printed at the front of the output. r is the number of bytes.
-pub record Called (c : Result) (out values' bases' ends' out' : List ℕ) (r : ℕ) : Type 0 where
-  pub values : values' ≡ c.values
-  pub bases : bases' ≡ c.bases
-  pub ends : ends' ≡ c.ends
-  pub printed : out' ≡ over (result_bytes c) out
-  pub count : r ≡ length (result_bytes c)
+-- A memory of at least n words.
+pub record Holds (m : Memory) (n : ℕ) : Type 0 where
+  pub values : n ≤ length m.values.now
+  pub bases : n ≤ length m.bases.now
+  pub ends : n ≤ length m.ends.now
+
+-- Some bytes are printed at the front of an output.
+pub record Printed (bytes : List ℕ) (out out' : Output) : Type 0 where
+  pub same_bytes : out'.bytes.ghost_name ≡ out.bytes.ghost_name
+  pub printed : out'.bytes.now ≡ over bytes out.bytes.now
+  pub count : out'.at ≡ length bytes
+
+-- A call is run in three lists, and printed.
+pub record Called (c : Result) (l' : Lists) (out out' : Output) : Type 0 where
+  pub values : l'.values ≡ c.values
+  pub bases : l'.bases ≡ c.bases
+  pub ends : l'.ends ≡ c.ends
+  pub printed : Printed (result_bytes c) out out'
 
 -- The same in the first words of longer lists.
-pub record Ran (c : Result) (l : Lists) (out : List ℕ) (l' : Lists) (out' : List ℕ) (r : ℕ) : Type 0 where
+pub record Ran (c : Result) (l l' : Lists) (out out' : Output) : Type 0 where
   pub left : l' ≡ lists_over c l
-  pub printed : out' ≡ over (result_bytes c) out
-  pub count : r ≡ length (result_bytes c)
+  pub printed : Printed (result_bytes c) out out'

@@ -1,18 +1,18 @@
 -- Nodes that are worked out without a call, by what is noted of them.
 use Prim.Native.Nat.{ℕ, ◌+◌, ◌%◌, ◌<◌}
 use mathlib.Core.Path.{◌≡◌, sym, ap, ◌∙◌}
-use mathlib.Core.List.{List}
 use native.Mathlib.Omega.{arith}
-use lib.ListN.{length}
-use Rattle.words.specs.Columns.{column}
 use Rattle.semantics.specs.Words.{Words, word}
 use Rattle.semantics.specs.Table.{edition, nodes, count, is_pointer, variable, constant, kind_of, sort_of, node_kind, node_type}
 use Rattle.semantics.specs.Table as Table
 use Rattle.semantics.specs.Syntax.{moves_bounds}
 use Rattle.semantics.specs.Rules.{unbounded, variable_location, place_at}
 use Rattle.semantics.proofs.Steps.{place_good, value_good}
-use Rattle.lookups.specs.Lists.{part, Lists}
-use Rattle.steps.specs.Answers.{failed, DatumIs, answers_ok, Given, LoadFinishes, MallocFinishes}
+use Rattle.lookups.specs.declared.Lists.{Lists}
+use Rattle.lookups.specs.Lists.{part, ListsOf}
+use Rattle.steps.specs.declared.Memory.{Memory}
+use Rattle.steps.specs.declared.Slots.{Slots}
+use Rattle.steps.specs.Answers.{failed, DatumIs, answers_ok, Given, Inside, LoadFinishes, MallocFinishes}
 use Rattle.evaluator.specs.Result.{PlaceReady, ValueReady, PlaceAnswered, ValueAnswered, AssignedAnswered}
 use Rattle.lookups.specs.Nodes.{ReadsVariable}
 use Rattle.lookups.proofs.Lookups.{noted_bounds}
@@ -21,19 +21,18 @@ use Rattle.lookups.proofs.Ready.{kind_is, a_is, read_type}
 use Rattle.evaluator.proofs.Outcomes.{weakened, place_only}
 use Rattle.evaluator.proofs.Evaluation.{from_none}
 
-module _ {l m : List Words} {n : ℕ} {s : Words} {a : ℕ} (p : a ≡ part l n 1) where
-  pub constant_answer : {r : ℕ} {s' : Words} → ((t : Words) → Lists t l → n < count t nodes → node_kind t n ≡ constant) → Given DatumIs (unbounded a) s r s' → ValueAnswered l m n s r m s'
+module _ {l : Lists} {m : Memory} {n : ℕ} {s : Slots} {a : ℕ} (p : a ≡ part l n 1) where
+  pub constant_answer : {r : ℕ} {s' : Slots} → ((t : Words) → ListsOf t l → n < count t nodes → node_kind t n ≡ constant) → Given DatumIs (unbounded a) s r s' → ValueAnswered l m n s r m s'
   unfolding place_at
   constant_answer q given =
-      from_none (λ t lists node vars h. (unbounded a, (λ st. rw (constant_node t n (q t lists node), ← a_is lists node p)), given)) given.room
+      from_none (λ t lists node vars h. (unbounded a, (λ st. rw (constant_node t n (q t lists node), ← a_is lists node p)), given))
 
   -- A variable's word is read.
   module _ {i w : ℕ} (reads : ReadsVariable l n) (g : i ≡ part l a 1) (hw : w ≡ i + 1) where
-    pub variable_read : {y r : ℕ} {s' : Words} → w < failed → y ≡ word (column l 1) a % 256 → LoadFinishes y m w s r s' → ValueAnswered l m n s r m s'
+    pub variable_read : {y r : ℕ} {s' : Slots} → w < failed → y ≡ word l.notes.now a % 256 → LoadFinishes y m w s r s' → ValueAnswered l m n s r m s'
     unfolding place_at
     variable_read {y} under hy finish =
         record {
-          room = finish.room;
           meets = λ t lists node vars watched log st h.
               let k = reads.each t lists node (value_node t n h) in
               let nd = read_node t n k.0 h in
@@ -49,7 +48,7 @@ module _ {l m : List Words} {n : ℕ} {s : Words} {a : ℕ} (p : a ≡ part l n 
         }
 
     -- It lies in all three lists.
-    pub variable_inside : ValueReady l m n s → (w < length (column m 0)) × (w < length (column m 1)) × (w < length (column m 2)) × (w < 65536)
+    pub variable_inside : ValueReady l m n s → (w < 65536) × Inside (w + 1) m
     variable_inside h =
         let t = h.table in
         let k = reads.each t h.lists h.node (value_node t n h.tree) in
@@ -59,15 +58,14 @@ module _ {l m : List Words} {n : ℕ} {s : Words} {a : ℕ} (p : a ≡ part l n 
         let v = variable_node t a (rw p' k.1) (rw (← p') at nd.0.tree) in
         let less : i < h.state.vars = omega (arith, v.0, a_is h.lists inside g) in
         let inv = h.state.stands.inv in
-        omega (arith, inv.low, inv.high, inv.bases_length, inv.ends_length, h.state.most)
+        (omega (arith, inv.low, inv.high, h.state.most), record { values = omega (arith, inv.low, inv.high); bases = omega (arith, inv.low, inv.high, inv.bases_length); ends = omega (arith, inv.low, inv.high, inv.ends_length) })
 
   -- The number of words is a constant: no slots are set for it.
-  pub malloc_constant_answer : {k i v r : ℕ} {s₂ : Words} → k ≡ part l n 0 → k ≡ 10 → ((t : Words) → Lists t l → a < count t nodes → node_kind t a ≡ constant) → i ≡ part l a 1 → v ≡ i → v < failed
+  pub malloc_constant_answer : {k i v r : ℕ} {s₂ : Slots} → k ≡ part l n 0 → k ≡ 10 → ((t : Words) → ListsOf t l → a < count t nodes → node_kind t a ≡ constant) → i ≡ part l a 1 → v ≡ i → v < failed
       → MallocFinishes m v s r s₂ → ValueAnswered l m n s r m s₂
   unfolding place_at kind_of
   malloc_constant_answer {i = i} e q four x hv small finish =
       record {
-        room = finish.room;
         meets = λ t lists node vars watched log st h.
             let nd = malloc_node t n (kind_is lists node e q) h in
             let p' = a_is lists node p in
@@ -80,7 +78,7 @@ module _ {l m : List Words} {n : ℕ} {s : Words} {a : ℕ} (p : a ≡ part l n 
 
   -- ---- a command's place
 
-  pub assigned_variable : {x r : ℕ} → PlaceReady l m n s → ((t : Words) → Lists t l → n < count t nodes → sort_of (node_kind t n) ≡ Table.place → node_kind t n ≡ variable) → x ≡ a → r ≡ x + 1
+  pub assigned_variable : {x r : ℕ} → PlaceReady l m n s → ((t : Words) → ListsOf t l → n < count t nodes → sort_of (node_kind t n) ≡ Table.place → node_kind t n ≡ variable) → x ≡ a → r ≡ x + 1
       → AssignedAnswered l m n s r m s
   unfolding place_at
   assigned_variable {r = r} ready q hx hr =
@@ -88,11 +86,10 @@ module _ {l m : List Words} {n : ℕ} {s : Words} {a : ℕ} (p : a ≡ part l n 
       let v = variable_node t n (q t ready.lists ready.node (place_node t n ready.tree)) ready.tree in
       let small : r < failed = omega (arith, v.0, a_is ready.lists ready.node p, ready.state.stands.inv.low, ready.state.stands.inv.high, ready.state.most) in
       record {
-        room = ready.room;
         meets = λ t lists node vars watched log st h.
             rw ((variable_node t n (q t lists node (place_node t n h)) h).1, ← a_is lists node p) (answers_ok (variable_location a) log (record { at = omega arith }) small st.watches);
       }
 
 -- Of a place that was worked out, the bounds are not asked.
-pub assigned_place : {l m m' : List Words} {n r : ℕ} {s s' : Words} → PlaceAnswered l m n s r m' s' → AssignedAnswered l m n s r m' s'
-assigned_place h = record { room = h.room; meets = λ t lists node vars watched log st tree. weakened place_only (h.meets t lists node vars watched log st tree) }
+pub assigned_place : {l : Lists} {m m' : Memory} {n r : ℕ} {s s' : Slots} → PlaceAnswered l m n s r m' s' → AssignedAnswered l m n s r m' s'
+assigned_place h = record { meets = λ t lists node vars watched log st tree. weakened place_only (h.meets t lists node vars watched log st tree) }

@@ -1,5 +1,8 @@
 -- Laws of verdicts, of loops over them and of the entries of a section.
 use Prim.Native.Nat.{ℕ, zero, suc, ◌+◌, ◌*◌, ◌<◌}
+use Rattle.std.specs.Prelude.{Result, Err, ⊤}
+use Rattle.std.specs.Result.{IsErrAnd}
+use Rattle.std.proofs.lemmas.Result.{err_from_is_err_and}
 use mathlib.Core.Bool.{Bool, true, false}
 use mathlib.Core.Path.{◌≡◌, refl, sym, ap, ◌∙◌}
 use native.Mathlib.Omega.{arith}
@@ -9,10 +12,11 @@ use native.Mathlib.Decide.{ℕ_discrete}
 use Rattle.semantics.specs.Words.{Words, word, sum_below}
 use Rattle.semantics.specs.Table.{entry_words, item_place, item}
 use Rattle.semantics.specs.Check.{Verdict, passes, refused, ◌or_else◌, require, each}
-use Rattle.layout.specs.Layout.{verdict_of, Stands}
+use Rattle.layout.specs.Layout.{Stands}
+use Rattle.layout.specs.Refusals as answer
+use Rattle.layout.specs.Refusals.{number_of, Outcome, outcome_of, verdict_of}
 use Rattle.layout.specs.Types.{Checked}
-use Rattle.layout.specs.declared.Verdict as answer
-use Rattle.layout.specs.declared.Verdict.TheVariants.{Refused}
+use Rattle.layout.specs.declared.Refusal.{Refusal}
 use Rattle.layout.specs.declared.Section.{Section}
 
 pub require_holds : (b : Bool) (n p : ℕ) → b ≡ true → require b n p ≡ passes
@@ -36,8 +40,18 @@ unfolding ◌or_else◌
 or_else_assoc passes v w = refl
 or_else_assoc (refused n p) v w = refl
 
+-- What a `?` hands on is the refusal that it was given.
+pub handed_on : {A : Type 0} (r : Result A Refusal) (e : Refusal) → IsErrAnd r (λ d. d ≡ e) → r ≡ Err e
+handed_on r e h = let p = err_from_is_err_and r h in p.1 ∙ ap Err p.2
+
+pub outcome_on : {A : Type 0} (r : Result A Refusal) (e : Refusal) {o : Outcome A} → IsErrAnd r (λ d. d ≡ e) → answer.refused (number_of e.fault) e.place ≡ o → outcome_of r ≡ o
+outcome_on r e h q = ap outcome_of (handed_on r e h) ∙ q
+
+pub verdict_on : (r : Result ⊤ Refusal) (e : Refusal) {v : Verdict} → IsErrAnd r (λ d. d ≡ e) → refused (number_of e.fault) e.place ≡ v → verdict_of r ≡ v
+verdict_on r e h q = ap verdict_of (handed_on r e h) ∙ q
+
 -- What an answer that a `match` has told apart says of the verdict.
-pub told_as : {r r' : answer.Verdict} {v : Verdict} → verdict_of r ≡ v → r ≡ r' → verdict_of r' ≡ v
+pub told_as : {r r' : Result ⊤ Refusal} {v : Verdict} → verdict_of r ≡ v → r ≡ r' → verdict_of r' ≡ v
 told_as e q = ap verdict_of (sym q) ∙ e
 
 module _ (f : ℕ → Verdict) (i : ℕ) (before : each i f ≡ passes) where
@@ -60,8 +74,12 @@ pub each_all : (f : ℕ → Verdict) (i n : ℕ) → i ≡ n → each i f ≡ pa
 each_all f i n e h = sym (rw e at h)
 
 -- A refusal promises nothing of the lists.
-pub refusal : {v : Verdict} {P : Type 0} {n p : ℕ} → refused n p ≡ v → Checked (Refused n p) v P
-refusal {n} {p} e = record { verdict = e; found = λ q. absurd (let z : ◌≡◌ {A = ℕ} 0 1 = cc in omega arith) }
+pub refusal : {v : Verdict} {P : Type 0} {r : Refusal} → refused (number_of r.fault) r.place ≡ v → Checked (Err r) v P
+refusal e = record { verdict = e; found = λ q. absurd (let z : ◌≡◌ {A = ℕ} 0 1 = cc in omega arith) }
+
+-- And so where a `?` hands it on.
+pub refusal_on : {v : Verdict} {P : Type 0} (r : Result ⊤ Refusal) (e : Refusal) → IsErrAnd r (λ d. d ≡ e) → refused (number_of e.fault) e.place ≡ v → Checked r v P
+refusal_on {v} {P} r e h q = rw (handed_on r e h) (refusal {v = v} {P = P} {r = e} q)
 
 pub sum_more : (f : ℕ → ℕ) (i : ℕ) → sum_below (i + 1) f ≡ sum_below i f + f i
 unfolding sum_below
@@ -76,3 +94,6 @@ module _ {t : Words} {s : ℕ} {l : Section} (h : Stands t s l) (i j p : ℕ) (e
   pub item_at : item t s i j ≡ word t p
   unfolding item
   item_at = rw place_at refl
+
+  pub entry_word : {x : ℕ} → x ≡ word t p → x ≡ item t s i j
+  entry_word q = q ∙ sym item_at

@@ -1,12 +1,14 @@
 -- Laws of lists that are filled, and of the first that a check refuses.
 use Prim.Native.Nat.{ℕ, zero, suc, ◌+◌, ◌≤◌, ◌<◌}
-use mathlib.Core.Path.{◌≡◌, refl, ap, ◌∙◌}
+use mathlib.Core.Path.{◌≡◌, refl, sym, ap, ◌∙◌}
 use native.Mathlib.Omega.{arith}
 use native.Mathlib.Nat.{not-suc-le-zero}
 use native.Mathlib.Numerals.{add-one}
 use native.Mathlib.Decide.{ℕ_discrete}
 use borrow.Author.Tests.{le-ltb, lt-ltb}
-use lib.ListN.{length, set, length-set}
+use mathlib.Core.List.{◌++◌}
+use lib.ListN.{length, take, drop, set, length-set}
+use Rattle.std.proofs.lemmas.List.{length-take-le, take-append-drop, set-append_left}
 use lib.Seq.{get_or-set_same, get_or-set_other, set-set}
 use Rattle.semantics.specs.Words.{Words, word, least_below}
 use Rattle.semantics.specs.Check.{Verdict, passes, refused, each}
@@ -49,6 +51,16 @@ module _ (l : Words) (at : ℕ) (g : ℕ → ℕ) where
       go : Dec (i ≡ n) → (i < n → word (filled l at n g) k ≡ g i) → word (set (filled l at n g) (at + n) (g n)) k ≡ g i
       go (yes q) below = rw (e, q) (get_or-set_same (filled l at n g) (at + n) (g n) 0 (omega (arith, filled_length n)))
       go (no q) below = get_or-set_other (filled l at n g) (at + n) k (g n) 0 (λ z. omega arith) ∙ below (omega arith)
+
+-- A part is filled as the whole is.
+filled_append : (a b : Words) (g : ℕ → ℕ) (n : ℕ) → n ≤ length a → filled a 0 n g ++ b ≡ filled (a ++ b) 0 n g
+unfolding filled
+filled_append a b g zero h = refl
+filled_append a b g (suc n) h =
+    sym (set-append_left (filled a 0 n g) b (0 + n) (g n) (omega (arith, filled_length a 0 g n))) ∙ ap (λ (k : Words). set k (0 + n) (g n)) (filled_append a b g n (omega arith))
+
+pub filled_front : (n : ℕ) (l : Words) (g : ℕ → ℕ) → n ≤ length l → filled (take n l) 0 n g ++ drop n l ≡ filled l 0 n g
+filled_front n l g h = filled_append (take n l) (drop n l) g n (omega (arith, length-take-le n l h)) ∙ ap (λ (k : Words). filled k 0 n g) (take-append-drop n l)
 
 -- What its first word was before makes no difference.
 pub filled_again : (l : Words) (n v : ℕ) (g : ℕ → ℕ) → filled (set l 0 v) 0 (n + 1) g ≡ filled l 0 (n + 1) g

@@ -5,7 +5,6 @@ use mathlib.Core.Bool.{Bool, true, false}
 use mathlib.Core.Path.{◌≡◌, refl, sym, ◌∙◌, ap}
 use mathlib.Core.Logic.{◌⊎◌, inl, inr, ⊎_elim}
 use native.Mathlib.Omega.{arith}
-use native.Mathlib.Decide.{dec_lt}
 use borrow.Author.Tests.{eqb-true, le-leb}
 use lib.Dec.{leb, eqb}
 use Rattle.semantics.specs.Words.{Words}
@@ -122,10 +121,3 @@ module _ (e : Edition) (t : Words) (n : ℕ) (small : node_type t n < 128) where
   pub place_high : sort_of (node_kind t n) ≡ place → 1024 ≤ note e t n
   unfolding note
   place_high s = omega (arith, here.whole, added.whole, added.few, here.for_place s)
-
-  pub value_low : sort_of (node_kind t n) ≡ value → note e t n < 1024
-  value_low s = go (dec_lt (note e t n) 1024)
-    where
-      go : Dec (note e t n < 1024) → note e t n < 1024
-      go (yes l) = l
-      go (no h) = absurd (value_other (sym s ∙ place_noted (omega arith)))

@@ -1,13 +1,13 @@
 -- Laws of the checks of sections 1 to 4, in the order of their functions.
 use Rattle.std.specs.Prelude.{if◌then◌else◌}
 use Prim.Native.Nat.{ℕ, zero, suc, ◌+◌, ◌*◌, ◌-◌, ◌≤◌, ◌<◌}
-use mathlib.Core.Bool.{Bool, true, false, not, ◌&&◌, ◌||◌}
+use mathlib.Core.Bool.{Bool, true, false, not, ◌&&◌}
 use mathlib.Core.Path.{◌≡◌, refl, sym, ◌∙◌, ap}
 use mathlib.Core.Logic.{◌⊎◌, inl, inr, ⊎_elim}
 use native.Mathlib.Omega.{arith}
 use native.Mathlib.Numerals.{add-one}
 use native.Mathlib.Decide.{ℕ_discrete}
-use borrow.Author.Tests.{le-ltb, lt-ltb, le-leb, lt-leb, ltb-true, ltb-false, leb-true, eq-eqb, ne_eqb}
+use borrow.Author.Tests.{le-ltb, lt-ltb, le-leb, ltb-true, ltb-false, leb-true, eq-eqb, ne_eqb}
 use lib.Dec.{leb, ltb, eqb}
 use lib.ListN.{length, set, replicate}
 use lib.Seq.{get_or-set_same, get_or-set_other}
@@ -21,7 +21,7 @@ use Rattle.layout.specs.Layout.{Stands}
 use Rattle.layout.specs.Types.{types_fault, slot, mark_below, Tabulated, RecordIn, Marks, marked, records_fault, first_left, entry_left}
 use Rattle.layout.specs.Lists.{filled, by_verdict, passed_below}
 use Rattle.layout.specs.declared.Section.{Section}
-use Rattle.layout.proofs.Laws.{require_holds, require_refuses, or_else_pass, or_else_refuse, sum_more, place_at, item_at}
+use Rattle.layout.proofs.Laws.{or_else_pass, or_else_refuse, or_else_assoc, sum_more, place_at}
 use Rattle.layout.proofs.Lists.{passed_to, passed_all}
 
 -- ---- known types and targets
@@ -34,18 +34,6 @@ same_test a b c d f g = go (ltb a b) refl
     go false e = sym (le-ltb c d (g (ltb-false a b e)))
 
 module _ (t : Words) (records pointers x : ℕ) (p : pointers ≡ count t 2) where
-  pub type_test : ltb x (2 + pointers) ≡ known_type t x
-  unfolding known_type
-  type_test = rw p refl
-
-  pub target_by_type : x < 65536 → known_type t x ≡ known_target t x
-  unfolding known_target
-  target_by_type h = rw (lt-leb 65536 x h) (sym (or_false (known_type t x)))
-    where
-      or_false : (b : Bool) → b || false ≡ b
-      or_false true = refl
-      or_false false = refl
-
   pub target_by_record : records ≡ count t 0 → pointers ≤ 64 → 65536 ≤ x → ltb (x - 65536) records ≡ known_target t x
   unfolding known_target known_type
   target_by_record r few h =
@@ -62,22 +50,13 @@ slot_record x h = rw (le-ltb x 65536 h) refl
 -- ---- records
 
 module _ {t : Words} {l : Section} (h : Stands t 0 l) (i : ℕ) where
-  pub total_at : field_total t i ≡ word t (l.at + i)
-  unfolding field_total
-  total_at = item_at h i 0 (l.at + i) (omega arith)
+  pub record_by : {x : ℕ} → x ≡ item t records i 0 → require (ltb 0 x) 4 (l.at + i) ≡ record_fault t i
+  unfolding record_fault field_total
+  record_by e = rw (place_at h i 0 (l.at + i) (omega arith), e)
 
-  pub record_empty : word t (l.at + i) ≡ 0 → record_fault t i ≡ refused 4 (l.at + i)
-  unfolding record_fault
-  record_empty e =
-      rw (place_at h i 0 (l.at + i) (omega arith)) (require_refuses _ 4 (l.at + i) (le-ltb 0 (field_total t i) (omega (arith, total_at))))
-
-  pub record_some : (word t (l.at + i) ≡ 0 → ⊥) → record_fault t i ≡ passes
-  unfolding record_fault
-  record_some e = require_holds _ 4 _ (lt-ltb 0 (field_total t i) (rw total_at (omega arith)))
-
-  pub first_more : first_field t (i + 1) ≡ first_field t i + word t (l.at + i)
-  unfolding first_field
-  first_more = sum_more (field_total t) i ∙ rw total_at refl
+pub first_more : (t : Words) (i : ℕ) {x : ℕ} → x ≡ item t records i 0 → first_field t (i + 1) ≡ first_field t i + x
+unfolding first_field field_total
+first_more t i e = rw e (sum_more (field_total t) i)
 
 pub first-≤ : (t : Words) (m n : ℕ) → m ≤ n → first_field t m ≤ first_field t n
 unfolding first_field
@@ -97,42 +76,16 @@ record_in {t} ok firsts r h =
 -- ---- variables
 
 module _ {t : Words} {l : Section} (h : Stands t 3 l) (i : ℕ) where
-  pub variable_unknown : false ≡ known_type t (word t (l.at + i)) → variable_fault t i ≡ refused 5 (l.at + i)
+  pub variable_by : {known : Bool} {x : ℕ} → known ≡ known_type t x → x ≡ item t variables i 0 → require known 5 (l.at + i) ≡ variable_fault t i
   unfolding variable_fault
-  variable_unknown e =
-      rw (place_at h i 0 (l.at + i) (omega arith), item_at h i 0 (l.at + i) (omega arith)) (require_refuses _ 5 (l.at + i) (sym e))
-
-  pub variable_known : true ≡ known_type t (word t (l.at + i)) → variable_fault t i ≡ passes
-  unfolding variable_fault
-  variable_known e = rw (item_at h i 0 (l.at + i) (omega arith)) (require_holds _ 5 _ (sym e))
+  variable_by k e = rw (place_at h i 0 (l.at + i) (omega arith), k, e)
 
 -- ---- fields
 
-module _ {t : Words} {l : Section} (h : Stands t 1 l) (i p : ℕ) (e : p ≡ l.at + 2 * i) where
-  type_at : item t fields i 0 ≡ word t p
-  type_at = item_at h i 0 p (omega arith)
-
-  words_at : item t fields i 1 ≡ word t (p + 1)
-  words_at = item_at h i 1 (p + 1) (omega arith)
-
-  pub field_unknown : false ≡ known_type t (word t p) → field_fault t i ≡ refused 5 p
+module _ {t : Words} {l : Section} (h : Stands t 1 l) (i : ℕ) {known : Bool} {x y : ℕ} (k : known ≡ known_type t x) (e : x ≡ item t fields i 0) (f : y ≡ item t fields i 1) where
+  pub field_by : require known 5 (l.at + 2 * i) or_else require (ltb 0 y && leb y 4096) 4 (l.at + 2 * i + 1) ≡ field_fault t i
   unfolding field_fault
-  field_unknown k =
-      rw (place_at h i 0 p (omega arith), type_at) (or_else_refuse _ _ (require_refuses _ 5 p (sym k)))
-
-  field_words : true ≡ known_type t (word t p) → field_fault t i ≡ require (ltb 0 (word t (p + 1)) && leb (word t (p + 1)) 4096) 4 (p + 1)
-  unfolding field_fault
-  field_words k =
-      rw (place_at h i 1 (p + 1) (omega arith), type_at, words_at) (or_else_pass _ _ (require_holds _ 5 _ (sym k)))
-
-  pub field_none : true ≡ known_type t (word t p) → word t (p + 1) < 1 → field_fault t i ≡ refused 4 (p + 1)
-  field_none k n = field_words k ∙ require_refuses _ 4 (p + 1) (rw (le-ltb 0 (word t (p + 1)) (omega arith)) refl)
-
-  pub field_over : true ≡ known_type t (word t p) → 1 ≤ word t (p + 1) → 4096 < word t (p + 1) → field_fault t i ≡ refused 4 (p + 1)
-  field_over k n m = field_words k ∙ require_refuses _ 4 (p + 1) (rw (lt-ltb 0 (word t (p + 1)) (omega arith), lt-leb (word t (p + 1)) 4096 m) refl)
-
-  pub field_passes : true ≡ known_type t (word t p) → 1 ≤ word t (p + 1) → word t (p + 1) ≤ 4096 → field_fault t i ≡ passes
-  field_passes k n m = field_words k ∙ require_holds _ 4 (p + 1) (rw (lt-ltb 0 (word t (p + 1)) (omega arith), le-leb (word t (p + 1)) 4096 m) refl)
+  field_by = rw (place_at h i 0 (l.at + 2 * i) (omega arith), place_at h i 1 (l.at + 2 * i + 1) (omega arith), k, e, f)
 
 -- ---- pointers
 
@@ -153,6 +106,14 @@ module _ (t : Words) (n x : ℕ) where
       go true q z = ltb-true (entry_below t n x) n q
       go false q z = absurd (z refl)
 
+  pub mark_test : eqb (mark_below t n x) 0 ≡ not (ltb (entry_below t n x) n)
+  unfolding mark_below
+  mark_test = go (ltb (entry_below t n x) n)
+    where
+      go : (b : Bool) → eqb (if b then entry_type (entry_below t n x) else 0) 0 ≡ not b
+      go true = ne_eqb (entry_type (entry_below t n x)) 0 (λ e. absurd (omega arith))
+      go false = refl
+
   pub mark_new : mark_below t n x ≡ 0 → item t pointers n 0 ≡ x → mark_below t (n + 1) x ≡ 2 + n
   unfolding mark_below entry_below least_below
   mark_new none e =
@@ -168,25 +129,11 @@ module _ (t : Words) (n x : ℕ) where
       go false q = rw (le-ltb (suc n) (suc n) (omega arith)) refl
 
 module _ {t : Words} {l : Section} (h : Stands t 2 l) (i : ℕ) where
-  pub target_at : item t pointers i 0 ≡ word t (l.at + i)
-  target_at = item_at h i 0 (l.at + i) (omega arith)
-
-  pub pointer_unknown : false ≡ known_target t (word t (l.at + i)) → pointer_fault t i ≡ refused 5 (l.at + i)
-  unfolding pointer_fault
-  pointer_unknown k =
-      rw (place_at h i 0 (l.at + i) (omega arith), target_at) (or_else_refuse _ _ (require_refuses _ 5 (l.at + i) (sym k)))
-
-  pointer_seen : true ≡ known_target t (word t (l.at + i))
-      → pointer_fault t i ≡ require (not (ltb (entry_below t i (word t (l.at + i))) i)) 6 (l.at + i)
+  pub pointer_by : {known : Bool} {x m : ℕ} → known ≡ known_target t x → x ≡ item t pointers i 0 → m ≡ mark_below t i x
+      → require known 5 (l.at + i) or_else require (eqb m 0) 6 (l.at + i) ≡ pointer_fault t i
   unfolding pointer_fault seen_before entry_below
-  pointer_seen k =
-      rw (any_least i (λ j. eqb (item t pointers j 0) (item t pointers i 0)), place_at h i 0 (l.at + i) (omega arith), target_at) (or_else_pass _ _ (require_holds _ 5 _ (sym k)))
-
-  pub pointer_again : true ≡ known_target t (word t (l.at + i)) → (mark_below t i (word t (l.at + i)) ≡ 0 → ⊥) → pointer_fault t i ≡ refused 6 (l.at + i)
-  pointer_again k m = pointer_seen k ∙ require_refuses _ 6 (l.at + i) (ap not (lt-ltb (entry_below t i (word t (l.at + i))) i (mark_some t i _ m)))
-
-  pub pointer_new : true ≡ known_target t (word t (l.at + i)) → mark_below t i (word t (l.at + i)) ≡ 0 → pointer_fault t i ≡ passes
-  pointer_new k m = pointer_seen k ∙ require_holds _ 6 (l.at + i) (ap not (le-ltb (entry_below t i (word t (l.at + i))) i (mark_none t i _ m)))
+  pointer_by {x = x} k e m =
+      rw (place_at h i 0 (l.at + i) (omega arith), any_least i (λ j. eqb (item t pointers j 0) (item t pointers i 0)), k, m, mark_test t i x, e)
 
 -- ---- where pointers are noted
 
@@ -250,48 +197,44 @@ marked_all t l {i} n before e = rw (← n, passed_all (pointer_fault t) i before
 
 -- ---- the sections in turn
 
-refused_first : (u v w : Verdict) {n p : ℕ} → refused n p ≡ u → w ≡ u or_else v → refused n p ≡ w
-refused_first u v w e q = sym (q ∙ or_else_refuse u v (sym e))
-
 module _ (t : Words) where
-  pub record_refused : {n p : ℕ} → refused n p ≡ each (count t records) (record_fault t) → refused n p ≡ types_fault t
-  unfolding types_fault
-  record_refused e = refused_first (each (count t records) (record_fault t)) _ (types_fault t) e refl
+  -- Section 1: a record is refused, or the sum decides.
+  pub record_refused : {n p : ℕ} → refused n p ≡ each (count t records) (record_fault t) → records_fault t ≡ refused n p
+  record_refused e = or_else_refuse _ (field_sum_fault t) (sym e)
 
-  module _ (records_pass : passes ≡ each (count t records) (record_fault t)) where
-    past_records : (v : Verdict) → each (count t records) (record_fault t) or_else v ≡ v
-    past_records v = or_else_pass (each (count t records) (record_fault t)) v (sym records_pass)
+  pub records_by : {m n p : ℕ} {v : Verdict} → passes ≡ each (count t records) (record_fault t) → m ≡ first_field t (count t records) → n ≡ count t fields → p ≡ count_place t fields
+      → v ≡ require (eqb m n) 4 p → records_fault t ≡ v
+  unfolding field_sum_fault
+  records_by pass sum total place e = or_else_pass _ (field_sum_fault t) (sym pass) ∙ rw (← place, ← total, ← sum) (sym e)
 
-    pub wrong_sum : (p : ℕ) → p ≡ count_place t fields → (first_field t (count t records) ≡ count t fields → ⊥) → records_fault t ≡ refused 4 p
-    unfolding field_sum_fault
-    wrong_sum p place wrong = past_records _ ∙ rw place (require_refuses _ 4 (count_place t fields) (ne_eqb _ _ wrong))
+  after_records : Verdict
+  after_records = each (count t fields) (field_fault t) or_else each (count t pointers) (pointer_fault t) or_else each (count t variables) (variable_fault t)
 
-    pub right_sum : first_field t (count t records) ≡ count t fields → records_fault t ≡ passes
-    unfolding field_sum_fault
-    right_sum e = past_records _ ∙ require_holds _ 4 (count_place t fields) (eq-eqb _ _ e)
+  parts : types_fault t ≡ records_fault t or_else after_records
+  unfolding types_fault after_records
+  parts = sym (or_else_assoc (each (count t records) (record_fault t)) (field_sum_fault t) _)
 
-    pub sum_refused : (p : ℕ) → p ≡ count_place t fields → (first_field t (count t records) ≡ count t fields → ⊥) → refused 4 p ≡ types_fault t
-    unfolding types_fault field_sum_fault
-    sum_refused p place wrong =
-        refused_first (field_sum_fault t) _ (types_fault t) (rw place (sym (require_refuses _ 4 (count_place t fields) (ne_eqb _ _ wrong)))) (past_records _)
+  pub records_refused : {n p : ℕ} → records_fault t ≡ refused n p → refused n p ≡ types_fault t
+  records_refused e = sym (parts ∙ or_else_refuse _ after_records e)
 
-    module _ (sum_right : first_field t (count t records) ≡ count t fields) where
-      past_sum : types_fault t ≡ each (count t fields) (field_fault t) or_else each (count t pointers) (pointer_fault t) or_else each (count t variables) (variable_fault t)
-      unfolding types_fault field_sum_fault
-      past_sum = past_records _ ∙ or_else_pass (field_sum_fault t) _ (require_holds _ 4 (count_place t fields) (eq-eqb _ _ sum_right))
+  module _ (records_pass : records_fault t ≡ passes) where
+    past_records : types_fault t ≡ after_records
+    past_records = parts ∙ or_else_pass _ after_records records_pass
 
-      pub field_refused : {n p : ℕ} → refused n p ≡ each (count t fields) (field_fault t) → refused n p ≡ types_fault t
-      field_refused e = refused_first (each (count t fields) (field_fault t)) _ (types_fault t) e past_sum
+    pub field_refused : {n p : ℕ} → refused n p ≡ each (count t fields) (field_fault t) → refused n p ≡ types_fault t
+    unfolding after_records
+    field_refused e = sym (past_records ∙ or_else_refuse (each (count t fields) (field_fault t)) _ (sym e))
 
-      module _ (fields_pass : passes ≡ each (count t fields) (field_fault t)) where
-        past_fields : types_fault t ≡ each (count t pointers) (pointer_fault t) or_else each (count t variables) (variable_fault t)
-        past_fields = past_sum ∙ or_else_pass (each (count t fields) (field_fault t)) _ (sym fields_pass)
+    module _ (fields_pass : passes ≡ each (count t fields) (field_fault t)) where
+      past_fields : types_fault t ≡ each (count t pointers) (pointer_fault t) or_else each (count t variables) (variable_fault t)
+      unfolding after_records
+      past_fields = past_records ∙ or_else_pass (each (count t fields) (field_fault t)) _ (sym fields_pass)
 
-        pub pointer_refused : {n p : ℕ} → refused n p ≡ each (count t pointers) (pointer_fault t) → refused n p ≡ types_fault t
-        pointer_refused e = refused_first (each (count t pointers) (pointer_fault t)) _ (types_fault t) e past_fields
+      pub pointer_refused : {n p : ℕ} → refused n p ≡ each (count t pointers) (pointer_fault t) → refused n p ≡ types_fault t
+      pointer_refused e = sym (past_fields ∙ or_else_refuse (each (count t pointers) (pointer_fault t)) _ (sym e))
 
-        pub past_pointers : passes ≡ each (count t pointers) (pointer_fault t) → each (count t variables) (variable_fault t) ≡ types_fault t
-        past_pointers pointers_pass = sym (past_fields ∙ or_else_pass (each (count t pointers) (pointer_fault t)) _ (sym pointers_pass))
+      pub past_pointers : passes ≡ each (count t pointers) (pointer_fault t) → each (count t variables) (variable_fault t) ≡ types_fault t
+      past_pointers pointers_pass = sym (past_fields ∙ or_else_pass (each (count t pointers) (pointer_fault t)) _ (sym pointers_pass))
 
 -- ---- what is left in the lists
 

@@ -4,21 +4,10 @@ use Rattle.semantics.specs.Words.{Words, word}
 use Rattle.semantics.specs.Table.{Edition, edition_1, edition_2, mark_words, records, fields, pointers, variables, nodes, commands, entry_words, limits, count_place, count}
 use Rattle.semantics.specs.Check as check
 use Rattle.semantics.specs.Check.{passes, refused, ◌or_else◌, edition_fault, each, section_fault, words_over}
+use Rattle.layout.specs.Refusals as answer
+use Rattle.layout.specs.Refusals.{Outcome}
 use Rattle.layout.specs.declared.Section.{Section}
 use Rattle.layout.specs.declared.Table.{Table}
-use Rattle.layout.specs.declared.Start.{Start}
-use Rattle.layout.specs.declared.Start.TheVariants as started
-use Rattle.layout.specs.declared.ParsedSection.{ParsedSection}
-use Rattle.layout.specs.declared.ParsedSection.TheVariants as parsed_section
-use Rattle.layout.specs.declared.Parsed.{Parsed}
-use Rattle.layout.specs.declared.Parsed.TheVariants as parsed_table
-use Rattle.layout.specs.declared.Verdict.{Verdict}
-use Rattle.layout.specs.declared.Verdict.TheVariants.{Passes, Refused}
-
--- Number and place of each case of a verdict.
-abbrev pub verdict_of : Verdict → check.Verdict
-verdict_of Passes = passes
-verdict_of (Refused n p) = refused n p
 
 -- The edition of a table with a mark, or without.
 abbrev pub edition_by : Bool → Edition
@@ -26,9 +15,9 @@ edition_by true = edition_2
 edition_by false = edition_1
 
 -- Where the first section stands, where the check of the edition says v.
-abbrev pub start_by : Edition → check.Verdict → Start
-start_by e passes = started.At (mark_words e)
-start_by e (refused n p) = started.Refused n p
+abbrev pub start_by : Edition → check.Verdict → Outcome ℕ
+start_by e passes = answer.is (mark_words e)
+start_by e (refused n p) = answer.refused n p
 
 -- Section s of a table: its first entry stands after its count.
 abbrev pub section_of : Words → ℕ → Section
@@ -46,23 +35,24 @@ layout t =
     }
 
 -- One section, where the check of it says v.
-abbrev pub section_by : Words → ℕ → check.Verdict → ParsedSection
-section_by t s passes = parsed_section.Is (section_of t s)
-section_by t s (refused n p) = parsed_section.Refused n p
+abbrev pub section_by : Words → ℕ → check.Verdict → Outcome Section
+section_by t s passes = answer.is (section_of t s)
+section_by t s (refused n p) = answer.refused n p
 
 -- What is turned away before anything is looked up: another edition, the sections, words over.
 abbrev pub sections_fault : Words → check.Verdict
 sections_fault t = edition_fault t or_else each 6 (section_fault t) or_else words_over t
 
 -- The whole layout, where the check of these says v.
-abbrev pub layout_by : Words → check.Verdict → Parsed
-layout_by t passes = parsed_table.Is (layout t)
-layout_by t (refused n p) = parsed_table.Refused n p
+abbrev pub layout_by : Words → check.Verdict → Outcome Table
+layout_by t passes = answer.is (layout t)
+layout_by t (refused n p) = answer.refused n p
 
-unfoldable pub parsed : Words → Parsed
+unfoldable pub parsed : Words → Outcome Table
 parsed t = layout_by t (sections_fault t)
 
--- Section s of the table stands where l says, within its limit and within the table.
+-- Section s of the table stands where l says, within its limit and within the table. Contracts state it of a table's words and a section apart:
+-- a value that held both would still need each contract to say which section it is, and would write `part.table.now` for `t.now`.
 pub record Stands (t : Words) (s : ℕ) (l : Section) : Type 0 where
   pub first : l.at ≡ count_place t s + 1
   pub total : l.count ≡ count t s

@@ -3,3 +3,4 @@ pub mod Layout
 pub mod Lists
 pub mod Types
 pub mod Notes
+pub mod Refusals

@@ -1,10 +1,10 @@
 -- The check of sections 1 to 4 and what it notes for the check of nodes.
-use Rattle.std.specs.Prelude.{ℕ, zero, suc, ◌+◌, ◌-◌, ◌≤◌, ◌<◌, true, ◌≡◌, ltb, length, set, replicate, if◌then◌else◌}
+use Rattle.std.specs.Prelude.{ℕ, zero, suc, ◌+◌, ◌-◌, ◌≤◌, ◌<◌, true, ◌≡◌, Result, ⊤, ltb, length, set, replicate, if◌then◌else◌}
 use Rattle.semantics.specs.Words.{Words, word}
 use Rattle.semantics.specs.Table.{records, fields, pointers, variables, count, item, record_target, known_target, entry_type, entry_below, field_total, first_field}
-use Rattle.layout.specs.Layout.{verdict_of}
+use Rattle.layout.specs.Refusals.{verdict_of}
 use Rattle.layout.specs.Lists.{filled, by_verdict, passed_below}
-use Rattle.layout.specs.declared.Verdict as answer
+use Rattle.layout.specs.declared.Refusal.{Refusal}
 use Rattle.semantics.specs.Check.{Verdict, passes, ◌or_else◌, each, record_fault, field_sum_fault, field_fault, pointer_fault, variable_fault}
 
 -- What is turned away of sections 1 to 4.
@@ -23,9 +23,6 @@ slot x = if ltb x (record_target 0) then x else 66 + (x - record_target 0)
 -- The type "pointer to x" by the first n entries, or 0 if none of them has the target x.
 unfoldable pub mark_below : Words → ℕ → ℕ → ℕ
 mark_below t n x = if ltb (entry_below t n x) n then entry_type (entry_below t n x) else 0
-
-abbrev pub entry_mark : Words → ℕ → ℕ
-entry_mark t x = mark_below t (count t pointers) x
 
 -- The list holds g 0, g 1, .., g n.
 pub record Tabulated (l : Words) (n : ℕ) (g : ℕ → ℕ) : Type 0 where
@@ -68,7 +65,7 @@ entry_left t l =
     l
 
 -- The answer is the verdict v, and where that passes P holds.
-pub record Checked (r : answer.Verdict) (v : Verdict) (P : Type 0) : Type 0 where
+pub record Checked (r : Result ⊤ Refusal) (v : Verdict) (P : Type 0) : Type 0 where
   pub verdict : verdict_of r ≡ v
   pub found : v ≡ passes → P
 

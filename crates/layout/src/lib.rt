@@ -1,15 +1,14 @@
 // The layout of a table, and the check of everything before its nodes: edition, sections, records, fields, pointers, variables.
 #![tactic(auto)]
 
-ghost use Rattle.std.specs.Prelude.{◌≡◌, ℕ, ◌+◌, ◌≤◌, length, replicate};
+ghost use Rattle.std.specs.Prelude.{◌≡◌, true, false, OnOk, OnErr, ℕ, ◌+◌, ◌*◌, ◌≤◌, ◌<◌, length, replicate, get_or, []};
 ghost use Rattle.semantics.specs.Words.{Words, word};
 ghost use Rattle.semantics.specs.Table.{edition, count_place, count, entry_words, limits, known_type, known_target, first_field};
-ghost use Rattle.semantics.specs.Check.{edition_fault, each, section_fault, record_fault, field_fault, pointer_fault, variable_fault};
-ghost use Rattle.layout.specs.Layout.{verdict_of, edition_by, start_by, section_by, parsed, Stands, LaidOut};
+ghost use Rattle.semantics.specs.Check.{require, edition_fault, each, section_fault, record_fault, field_fault, pointer_fault, variable_fault};
+ghost use Rattle.layout.specs.Refusals.{number_of, outcome_of, verdict_of};
+ghost use Rattle.layout.specs.Layout.{edition_by, start_by, section_by, parsed, Stands, LaidOut};
 ghost use Rattle.layout.specs.Lists.{filled, passed_below};
 ghost use Rattle.layout.specs.Types.{types_fault, slot, Marks, Room, marked, first_left, entry_left, Checked, LookedUp};
-
-use words::index;
 
 // Where a section's first entry stands, and how many entries it has.
 #[derive(Clone, Copy)]
@@ -41,12 +40,13 @@ pub type Sizes = [u32; Table::RECORDS];
 // The offset of each field.
 pub type Offsets = [u32; Table::FIELDS];
 
-// The note of each node, and how often it is used.
+// The note of each node.
 pub type Notes = [u32; Table::NODES];
 
+// How often each node is used. Apart from the notes, since a run has no need of it.
 pub type Uses = [u32; Table::NODES];
 
-// The kinds of nodes: places, then values.
+// The kinds of nodes: places, then values. Numbers and not an enum: the check matches a table's own word, once, with ranges for places and values.
 pub mod kind {
     pub const VARIABLE: u32 = 1;
 
@@ -71,7 +71,7 @@ pub mod kind {
     pub const COPY: u32 = 11;
 }
 
-// The bits of a node's note. Types are below the lowest.
+// The bits of a node's note. Types are below the lowest. In one word a node, of which each question is one test: a run looks at one for each child.
 pub mod note {
     // A value that is neither a constant nor the read of a variable.
     pub const VALUE: u32 = 0;
@@ -87,77 +87,124 @@ pub mod note {
     pub const PLACE: u32 = 1024;
 }
 
-#[derive(Clone, Copy)]
-enum Start {
-    At(usize),
-    Refused(u32, usize),
+// Why a table, or what a call brings beside it, is turned away. As a number each is the one by which documents and C know it.
+#[derive(Clone, Copy, PartialEq, Eq)]
+pub enum Fault {
+    // The table ends before a count, or within a section.
+    CutShort = 1,
+
+    // Words follow the last section.
+    WordsOver = 2,
+
+    // A count is above its limit.
+    OverLimit = 3,
+
+    // A record without fields, a wrong number of fields in all, or a field of no words or too many.
+    WrongCount = 4,
+
+    UnknownType = 5,
+
+    // A second pointer to the same target.
+    SameTarget = 6,
+
+    // An unknown kind of node; an operand that names nothing of its sort before the node; or one that is not used and not 0.
+    Operand = 7,
+
+    // The types of a node or a command do not fit.
+    Types = 8,
+
+    // A node that is not used exactly once.
+    Uses = 9,
+
+    // The lengths of the lists.
+    Lengths = 10,
+
+    Input = 11,
+
+    // The list of registers is too long, cut short, or has words over.
+    RegisterList = 13,
+
+    // A register's variable is unknown, no pointer, or named before.
+    RegisterVariable = 14,
+
+    // The registers do not fit in the memory.
+    RegisterRoom = 15,
+
+    // An edition that is not known.
+    Edition = 16,
 }
 
-#[derive(Clone, Copy)]
-enum ParsedSection {
-    Is(Section),
-    Refused(u32, usize),
+impl Fault {
+    pub fn number(self) -> u32
+        ensures { result ≡ number_of self }
+    {
+        self as u32
+    }
 }
 
-// A layout, or the number and the place of the refusal.
-#[derive(Clone, Copy)]
-pub enum Parsed {
-    Is(Table),
-    Refused(u32, usize),
+// What is turned away, and the place of the word at fault.
+#[derive(Clone, Copy, PartialEq, Eq)]
+pub struct Refusal {
+    pub fault: Fault,
+    pub place: usize,
 }
 
-#[derive(Clone, Copy)]
-pub enum Verdict {
-    Passes,
-    Refused(u32, usize),
+// All is well, or this is at fault.
+pub fn require(ok: bool, fault: Fault, place: usize) -> Result<(), Refusal>
+    ensures met { OnOk result (ok ≡ true) }
+    ensures unmet { OnErr result (ok ≡ false) }
+    ensures faults { verdict_of result ≡ require ok (number_of fault) place }
+{
+    if ok {
+        Ok(())
+    } else {
+        Err(Refusal { fault, place })
+    }
 }
 
 impl Section {
-    // The section whose count stands at `place` and whose entries have `words` words each, or the refusal (1, 3, then 1).
-    fn parse(t: &[u32], place: usize, words: usize, limit: usize) -> ParsedSection
+    // The section whose count stands at `place` and whose entries have `words` words each, or the refusal: cut short, over the limit, then cut short.
+    fn parse(t: &[u32], place: usize, words: usize, limit: usize) -> Result<Section, Refusal>
         requires { (words ≤ 3) × (limit ≤ 512) }
-        ensures { (s : ℕ) → place ≡ count_place t.now s → words ≡ word entry_words s → limit ≡ word limits s → result ≡ section_by t.now s (section_fault t.now s) }
+        ensures { (s : ℕ) → place ≡ count_place t.now s → words ≡ word entry_words s → limit ≡ word limits s → outcome_of result ≡ section_by t.now s (section_fault t.now s) }
     {
         let length = t.len();
-        if length <= place {
-            return ParsedSection::Refused(1, length);
-        }
-        let count = index(t[place]);
-        if limit < count {
-            return ParsedSection::Refused(3, place);
-        }
+        require(place < length, Fault::CutShort, length)?;
+        let count = t[place] as usize;
+        require(count <= limit, Fault::OverLimit, place)?;
         let at = place + 1;
-        if length - at < words * count {
-            return ParsedSection::Refused(1, length);
-        }
-        ParsedSection::Is(Section { at, count })
+        require(at + words * count <= length, Fault::CutShort, length)?;
+        Ok(Section { at, count })
+    }
+
+    // Its entries, which have N words each.
+    pub fn entries<const N: usize>(self, t: &[u32]) -> &[[u32; N]]
+        requires { (0 < N) × (self.at + N * self.count ≤ length t.now) }
+        ensures all { length result.now ≡ self.count }
+        ensures same { (i j : ℕ) → i < self.count → j < N → word (get_or result.now i []) j ≡ word t.now (self.at + N * i + j) }
+    {
+        let (entries, _) = t[self.at..self.at + N * self.count].as_chunks::<N>();
+        entries
     }
 }
 
 // Whether a table starts with the mark: it is of edition 2, or else refused.
+#[tactic(auto, unfolding(semantics::specs::Table::edition))]
 pub fn is_marked(t: &[u32]) -> bool
     ensures { edition_by result ≡ edition t.now }
 {
-    if t.len() == 0 {
-        return false;
-    }
-    t[0] == Table::MARK
+    !t.is_empty() && t[0] == Table::MARK
 }
 
-// Where the first section stands, or 16 for another edition.
-fn first_section(t: &[u32]) -> Start
-    ensures { result ≡ start_by (edition t.now) (edition_fault t.now) }
+// Where the first section stands, or that the edition is another.
+fn first_section(t: &[u32]) -> Result<usize, Refusal>
+    ensures { outcome_of result ≡ start_by (edition t.now) (edition_fault t.now) }
 {
     if !is_marked(t) {
-        return Start::At(0);
+        return Ok(0);
     }
-    if t.len() <= 1 {
-        return Start::At(2);
-    }
-    if t[1] != Table::EDITION {
-        return Start::Refused(16, 1);
-    }
-    Start::At(2)
+    require(t.len() <= 1 || t[1] == Table::EDITION, Fault::Edition, 1)?;
+    Ok(2)
 }
 
 impl Table {
@@ -186,43 +233,20 @@ impl Table {
     // The target that is record 0.
     pub const RECORD: u32 = 65536;
 
-    // The layout of a table, or the refusal: another edition (16), the sections in turn (1, 3, then 1), then words over (2).
-    pub fn parse(t: &[u32]) -> Parsed
-        ensures { result ≡ parsed t.now }
+    // The layout of a table, or the refusal: another edition, the sections in turn, then words over.
+    pub fn parse(t: &[u32]) -> Result<Table, Refusal>
+        ensures { outcome_of result ≡ parsed t.now }
     {
-        let first = match first_section(t) {
-            Start::At(p) => p,
-            Start::Refused(n, p) => return Parsed::Refused(n, p),
-        };
-        let records = match Section::parse(t, first, 1, Table::RECORDS) {
-            ParsedSection::Is(s) => s,
-            ParsedSection::Refused(n, p) => return Parsed::Refused(n, p),
-        };
-        let fields = match Section::parse(t, records.at + records.count, 2, Table::FIELDS) {
-            ParsedSection::Is(s) => s,
-            ParsedSection::Refused(n, p) => return Parsed::Refused(n, p),
-        };
-        let pointers = match Section::parse(t, fields.at + 2 * fields.count, 1, Table::POINTERS) {
-            ParsedSection::Is(s) => s,
-            ParsedSection::Refused(n, p) => return Parsed::Refused(n, p),
-        };
-        let variables = match Section::parse(t, pointers.at + pointers.count, 1, Table::VARIABLES) {
-            ParsedSection::Is(s) => s,
-            ParsedSection::Refused(n, p) => return Parsed::Refused(n, p),
-        };
-        let nodes = match Section::parse(t, variables.at + variables.count, 3, Table::NODES) {
-            ParsedSection::Is(s) => s,
-            ParsedSection::Refused(n, p) => return Parsed::Refused(n, p),
-        };
-        let commands = match Section::parse(t, nodes.at + 3 * nodes.count, 2, Table::COMMANDS) {
-            ParsedSection::Is(s) => s,
-            ParsedSection::Refused(n, p) => return Parsed::Refused(n, p),
-        };
+        let first = first_section(t)?;
+        let records = Section::parse(t, first, 1, Table::RECORDS)?;
+        let fields = Section::parse(t, records.at + records.count, 2, Table::FIELDS)?;
+        let pointers = Section::parse(t, fields.at + 2 * fields.count, 1, Table::POINTERS)?;
+        let variables = Section::parse(t, pointers.at + pointers.count, 1, Table::VARIABLES)?;
+        let nodes = Section::parse(t, variables.at + variables.count, 3, Table::NODES)?;
+        let commands = Section::parse(t, nodes.at + 3 * nodes.count, 2, Table::COMMANDS)?;
         let end = commands.at + 2 * commands.count;
-        if end < t.len() {
-            return Parsed::Refused(2, end);
-        }
-        Parsed::Is(Table {
+        require(t.len() <= end, Fault::WordsOver, end)?;
+        Ok(Table {
             records,
             fields,
             pointers,
@@ -234,14 +258,16 @@ impl Table {
 }
 
 // x is int, pointer to void or one of the pointer entries.
+#[tactic(auto, unfolding(semantics::specs::Table::known_type))]
 pub fn known_type(pointers: usize, x: u32) -> bool
     requires { pointers ≤ 64 }
     ensures { (t : Words) → pointers ≡ count t 2 → result ≡ known_type t x }
 {
-    index(x) < 2 + pointers
+    (x as usize) < 2 + pointers
 }
 
 // x is a known type, or 65,536 + the number of a record.
+#[tactic(auto, unfolding(semantics::specs::Table::known_target))]
 pub fn known_target(records: usize, pointers: usize, x: u32) -> bool
     requires { (records ≤ 32) × (pointers ≤ 64) }
     ensures { (t : Words) → records ≡ count t 0 → pointers ≡ count t 2 → result ≡ known_target t x }
@@ -249,47 +275,43 @@ pub fn known_target(records: usize, pointers: usize, x: u32) -> bool
     if x < Table::RECORD {
         known_type(pointers, x)
     } else {
-        index(x - Table::RECORD) < records
+        ((x - Table::RECORD) as usize) < records
     }
 }
 
 // Where the pointer to a known target is noted.
+#[tactic(auto, unfolding(crate::specs::Types::slot))]
 pub fn target_slot(x: u32) -> usize
     ensures { result ≡ slot x }
 {
     if x < Table::RECORD {
-        index(x)
+        x as usize
     } else {
-        Table::TYPES + index(x - Table::RECORD)
+        Table::TYPES + (x - Table::RECORD) as usize
     }
 }
 
-// 4 for the first record without fields.
-fn check_records(t: &[u32], records: Section) -> Verdict
+// Refuses the first record without fields.
+#[tactic(auto, unfolding(semantics::specs::Check::each))]
+fn check_records(t: &[u32], records: Section) -> Result<(), Refusal>
     requires { Stands t.now 0 records }
     ensures { verdict_of result ≡ each (count t.now 0) (record_fault t.now) }
 {
-    let at = records.at;
-    let count = records.count;
-    for i in 0..count {
-        let place = at + i;
-        if t[place] == 0 {
-            return Verdict::Refused(4, place);
-        }
+    for (i, &[total]) in records.entries::<1>(t).iter().enumerate() {
+        require(0 < total, Fault::WrongCount, records.at + i)?;
     }
-    Verdict::Passes
+    Ok(())
 }
 
 // The number of fields of all records together.
+#[tactic(auto, unfolding(semantics::specs::Table::first_field, semantics::specs::Words::sum_below))]
 fn total_fields(t: &[u32], records: Section) -> usize
     requires { Stands t.now 0 records }
     ensures { result ≡ first_field t.now (count t.now 0) }
 {
-    let at = records.at;
-    let n = records.count;
     let mut sum = 0;
-    for i in 0..n {
-        sum += index(t[at + i]);
+    for &[total] in records.entries::<1>(t) {
+        sum += total as usize;
     }
     sum
 }
@@ -300,103 +322,82 @@ fn note_first(t: &[u32], records: Section, first: &mut Firsts)
     requires t_bound { (first_field t.now (count t.now 0) ≤ 128) × (length first.old ≡ 33) }
     ensures { first.new ≡ filled first.old 0 (count t.now 0 + 1) (first_field t.now) }
 {
-    let at = records.at;
-    let last = records.count;
     let mut sum = 0;
     first[0] = 0;
-    for i in 0..last {
-        sum += t[at + i];
+    for (i, &[total]) in records.entries::<1>(t).iter().enumerate() {
+        sum += total;
         first[i + 1] = sum;
     }
 }
 
-// 5 and 4 for the first field of an unknown type or of a wrong count of words.
-fn check_fields(t: &[u32], fields: Section, pointers: usize) -> Verdict
+// Refuses the first field of an unknown type or of a wrong count of words.
+#[tactic(auto, unfolding(semantics::specs::Check::each))]
+fn check_fields(t: &[u32], fields: Section, pointers: usize) -> Result<(), Refusal>
     requires { (Stands t.now 1 fields) × (pointers ≡ count t.now 2) × (pointers ≤ 64) }
     ensures { verdict_of result ≡ each (count t.now 1) (field_fault t.now) }
 {
-    let at = fields.at;
-    let count = fields.count;
-    for i in 0..count {
-        let field = at + 2 * i;
-        if !known_type(pointers, t[field]) {
-            return Verdict::Refused(5, field);
-        }
-        let words_at = field + 1;
-        let words = t[words_at];
-        if words < 1 || Table::FIELD_WORDS < words {
-            return Verdict::Refused(4, words_at);
-        }
+    for (i, &[of_type, words]) in fields.entries::<2>(t).iter().enumerate() {
+        let place = fields.at + 2 * i;
+        require(known_type(pointers, of_type), Fault::UnknownType, place)?;
+        let few = 0 < words && words <= Table::FIELD_WORDS;
+        require(few, Fault::WrongCount, place + 1)?;
     }
-    Verdict::Passes
+    Ok(())
 }
 
-// 5 and 6 for the first pointer with an unknown target or one seen before. Notes the pointer to each target before it.
-fn check_pointers(t: &[u32], pointers: Section, records: usize, entry: &mut Entries) -> Verdict
+// Refuses the first pointer with an unknown target or one seen before. Notes the pointer to each target before it.
+fn check_pointers(
+    t: &[u32],
+    pointers: Section,
+    records: usize,
+    entry: &mut Entries,
+) -> Result<(), Refusal>
     requires { (Stands t.now 2 pointers) × (records ≡ count t.now 0) × (records ≤ 32) × (entry.old ≡ replicate 98 0) }
     ensures found { Checked result (each (count t.now 2) (pointer_fault t.now)) (Marks t.now entry.new (count t.now 2)) }
     ensures lists { entry.new ≡ marked t.now (passed_below (count t.now 2) (pointer_fault t.now)) entry.old }
 {
-    let at = pointers.at;
-    let count = pointers.count;
-    let mut mark = 2;
-    for i in 0..count {
-        let pointer = at + i;
-        let x = t[pointer];
-        if !known_target(records, count, x) {
-            return Verdict::Refused(5, pointer);
-        }
-        let k = target_slot(x);
-        if entry[k] != 0 {
-            return Verdict::Refused(6, pointer);
-        }
-        entry[k] = mark;
-        mark += 1;
+    for (i, &[target]) in pointers.entries::<1>(t).iter().enumerate() {
+        let place = pointers.at + i;
+        let known = known_target(records, pointers.count, target);
+        require(known, Fault::UnknownType, place)?;
+        let slot = target_slot(target);
+        require(entry[slot] == 0, Fault::SameTarget, place)?;
+        entry[slot] = 2 + i as u32;
     }
-    Verdict::Passes
+    Ok(())
 }
 
-// 5 for the first variable of an unknown type.
-fn check_variables(t: &[u32], variables: Section, pointers: usize) -> Verdict
+// Refuses the first variable of an unknown type.
+#[tactic(auto, unfolding(semantics::specs::Check::each))]
+fn check_variables(t: &[u32], variables: Section, pointers: usize) -> Result<(), Refusal>
     requires { (Stands t.now 3 variables) × (pointers ≡ count t.now 2) × (pointers ≤ 64) }
     ensures { verdict_of result ≡ each (count t.now 3) (variable_fault t.now) }
 {
-    let at = variables.at;
-    let count = variables.count;
-    for i in 0..count {
-        let variable = at + i;
-        if !known_type(pointers, t[variable]) {
-            return Verdict::Refused(5, variable);
-        }
+    for (i, &[x]) in variables.entries::<1>(t).iter().enumerate() {
+        let known = known_type(pointers, x);
+        require(known, Fault::UnknownType, variables.at + i)?;
     }
-    Verdict::Passes
+    Ok(())
 }
 
-// Refusals 4 to 6 of sections 1 to 4. Where these pass, the two lists are filled with what the check of nodes looks up; where one is
+// What is turned away of sections 1 to 4. Where these pass, the two lists are filled with what the check of nodes looks up; where one is
 // refused, they are as they were, or filled as far as the check had come.
-pub fn check_types(t: &[u32], l: Table, first: &mut Firsts, entry: &mut Entries) -> Verdict
+pub fn check_types(
+    t: &[u32],
+    l: Table,
+    first: &mut Firsts,
+    entry: &mut Entries,
+) -> Result<(), Refusal>
     requires laid_out { LaidOut t.now l }
     requires room { Room first.old entry.old }
     ensures found { Checked result (types_fault t.now) (LookedUp t.now first.new entry.new) }
     ensures lists { (first.new ≡ first_left t.now first.old) × (entry.new ≡ entry_left t.now entry.old) }
 {
-    let records = l.records;
-    let fields = l.fields;
-    let pointers = l.pointers;
-    let variables = l.variables;
-    if let Verdict::Refused(n, p) = check_records(t, records) {
-        return Verdict::Refused(n, p);
-    }
-    if total_fields(t, records) != fields.count {
-        let place = fields.at - 1;
-        return Verdict::Refused(4, place);
-    }
-    note_first(t, records, first);
-    if let Verdict::Refused(n, p) = check_fields(t, fields, pointers.count) {
-        return Verdict::Refused(n, p);
-    }
-    if let Verdict::Refused(n, p) = check_pointers(t, pointers, records.count, entry) {
-        return Verdict::Refused(n, p);
-    }
-    check_variables(t, variables, pointers.count)
+    check_records(t, l.records)?;
+    let total = total_fields(t, l.records);
+    require(total == l.fields.count, Fault::WrongCount, l.fields.at - 1)?;
+    note_first(t, l.records, first);
+    check_fields(t, l.fields, l.pointers.count)?;
+    check_pointers(t, l.pointers, l.records.count, entry)?;
+    check_variables(t, l.variables, l.pointers.count)
 }

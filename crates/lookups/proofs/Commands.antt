@@ -1,7 +1,6 @@
 -- The words of a table's commands, and the nodes that they name.
 use Prim.Native.Nat.{ℕ, ◌+◌, ◌*◌, ◌<◌}
 use mathlib.Core.Path.{◌≡◌, sym, ap, ◌∙◌}
-use mathlib.Core.List.{List}
 use native.Mathlib.Omega.{arith}
 use lib.ListN.{length}
 use Rattle.semantics.specs.Words.{Words, word}
@@ -9,10 +8,11 @@ use Rattle.semantics.specs.Table.{variables, commands, count_place, count, item_
 use Rattle.semantics.specs.Check.{command_place, command_value}
 use Rattle.semantics.proofs.Passed.{section_ok, section_end}
 use Rattle.semantics.proofs.Trees.{command_ok}
-use Rattle.lookups.specs.Lists.{Lists}
+use Rattle.lookups.specs.declared.Lists.{Lists}
+use Rattle.lookups.specs.Lists.{ListsOf}
 use Rattle.lookups.specs.Nodes.{CommandNodes}
 
-module _ {t : Words} {l : List Words} {at total : ℕ} (lists : Lists t l) (first : at ≡ count_place t commands + 1) (all : total ≡ count t commands) (c : ℕ) (less : c < total) where
+module _ {t : Words} {l : Lists} {at total : ℕ} (lists : ListsOf t l) (first : at ≡ count_place t commands + 1) (all : total ≡ count t commands) (c : ℕ) (less : c < total) where
   -- Where the two words of command c stand.
   pub command_words : (command_place t c ≡ word t (at + 2 * c)) × (command_value t c ≡ word t (at + 2 * c + 1)) × (at + 2 * c + 1 < length t)
   unfolding item item_place

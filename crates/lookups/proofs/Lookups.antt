@@ -1,10 +1,9 @@
 -- Laws of what the evaluator looks up in a table's lists: nodes, targets, fields, sizes and offsets.
 use Rattle.std.specs.Prelude.{if◌then◌else◌}
 use Prim.Native.Nat.{ℕ, ◌+◌, ◌*◌, ◌-◌, ◌/◌, ◌%◌, ◌≤◌, ◌<◌}
-use mathlib.Core.Bool.{Bool, true, false, not, ◌&&◌}
+use mathlib.Core.Bool.{Bool, true, false, ◌&&◌}
 use mathlib.Core.Path.{◌≡◌, refl, sym, ap, ◌∙◌}
 use mathlib.Core.Logic.{⊎_elim}
-use mathlib.Core.List.{List}
 use native.Mathlib.Omega.{arith}
 use native.Mathlib.Decide.{dec_lt}
 use borrow.Author.Tests.{lt-leb, le-leb, lt-ltb, le-ltb, ltb-true, leb-true, eqb-true}
@@ -18,11 +17,11 @@ use Rattle.semantics.proofs.Passed.{TypesPassed, section_ok, require_passes, tar
 use Rattle.semantics.proofs.Tests.{and_true, or_true}
 use Rattle.semantics.proofs.Trees.{NodeOk, node_ok, is_child_true, types_known}
 use Rattle.layout.specs.Types.{RecordIn}
+use Rattle.lookups.specs.declared.Lists.{Lists}
 use Rattle.layout.specs.Notes.{as_of, note}
 use Rattle.layout.proofs.Notes.{type_noted, low_noted, bounds_noted, constant_noted, variable_noted, read_noted}
 use Rattle.layout.proofs.Types.{record_in}
-use Rattle.lookups.specs.Lists.{part, pointer_by_type, tracked_by_type, Lists, FieldNode, KnownWord}
-use Rattle.words.specs.Columns.{column}
+use Rattle.lookups.specs.Lists.{part, pointer_by_type, tracked_by_type, ListsOf, FieldNode, KnownWord}
 
 and_trivial : (b : Bool) → b && true ≡ b
 and_trivial true = refl
@@ -43,18 +42,18 @@ few_nodes {t} ok = (section_ok t 4 (ok.sections 4 (omega arith))).limited
 
 -- ---- nodes
 
-module _ {t : Words} {l : List Words} (lists : Lists t l) {n : ℕ} (node : n < count t nodes) where
-  pub item_inside : (j : ℕ) → j < 3 → (n < 512) × (j < 3) × (n * 3 + j < length (column l 0))
+module _ {t : Words} {l : Lists} (lists : ListsOf t l) {n : ℕ} (node : n < count t nodes) where
+  pub item_inside : (j : ℕ) → j < 3 → (n < 512) × (j < 3) × (n * 3 + j < length l.nodes.now)
   item_inside j h = omega (arith, few_nodes lists.passed.types, lists.node_room)
 
-  pub note_inside : (n < 512) × (n < length (column l 1))
+  pub note_inside : (n < 512) × (n < length l.notes.now)
   note_inside = omega (arith, few_nodes lists.passed.types, lists.note_room)
 
   pub item_is : (j : ℕ) {x : ℕ} → j < 3 → x ≡ part l n j → x ≡ item t nodes n j
   item_is j h e = e ∙ lists.node_is n j node h
 
 -- What the lists have noted of a node.
-module _ {t : Words} {l : List Words} (lists : Lists t l) {a : ℕ} (inside : a < count t nodes) where
+module _ {t : Words} {l : Lists} (lists : ListsOf t l) {a : ℕ} (inside : a < count t nodes) where
   known : known_type t (node_type t a) ≡ true
   known = types_known lists.passed.types (count t nodes) lists.passed.node_passes a inside
 
@@ -63,17 +62,17 @@ module _ {t : Words} {l : List Words} (lists : Lists t l) {a : ℕ} (inside : a 
   small = omega (arith, ltb-true (node_type t a) (2 + count t pointers) known, few_pointers lists.passed.types)
 
   -- Its type, which is known.
-  pub noted_type : {y : ℕ} → y ≡ word (column l 1) a % 128 → (y ≡ node_type t a) × KnownWord known_type t l y
+  pub noted_type : {y : ℕ} → y ≡ word l.notes.now a % 128 → (y ≡ node_type t a) × KnownWord known_type t l y
   noted_type e =
       let same = e ∙ ap (λ x. x % 128) (lists.note_is a inside) ∙ type_noted (edition t) t a small in
       (same, record { lists = lists; known = rw same known })
 
   -- Whether base and end go with its value.
-  pub noted_bounds : {y : ℕ} → y ≡ word (column l 1) a % 256 → is_pointer y ≡ moves_bounds (edition t) (node_type t a)
+  pub noted_bounds : {y : ℕ} → y ≡ word l.notes.now a % 256 → is_pointer y ≡ moves_bounds (edition t) (node_type t a)
   noted_bounds e = rw (e, lists.note_is a inside) (bounds_noted (edition t) t a small)
 
   -- Whether they go by its type.
-  pub noted_by_type : {y : ℕ} → y ≡ word (column l 1) a → pointer_by_type y ≡ tracked_by_type (edition t) (node_type t a)
+  pub noted_by_type : {y : ℕ} → y ≡ word l.notes.now a → pointer_by_type y ≡ tracked_by_type (edition t) (node_type t a)
   noted_by_type e = rw (e, lists.note_is a inside, low_noted (edition t) t a small) (go (edition t))
     where
       go : (e : Edition) → is_pointer (as_of e (node_type t a)) && ltb (as_of e (node_type t a)) 128 ≡ tracked_by_type e (node_type t a)
@@ -81,7 +80,7 @@ module _ {t : Words} {l : List Words} (lists : Lists t l) {a : ℕ} (inside : a 
       go edition_2 = rw (le-ltb (node_type t a + 128) 128 (omega arith)) (and_false (is_pointer (node_type t a + 128)))
 
   -- A bit of its note that is set.
-  module _ {x : ℕ} {f : Bool} (e : x ≡ word (column l 1) a) (taken : f ≡ true) where
+  module _ {x : ℕ} {f : Bool} (e : x ≡ word l.notes.now a) (taken : f ≡ true) where
     is_set : {b : ℕ} → f ≡ eqb b 1 → b ≡ 1
     is_set {b} h = eqb-true b 1 (sym h ∙ taken)
 
@@ -100,14 +99,14 @@ module _ {t : Words} {l : List Words} (lists : Lists t l) {a : ℕ} (inside : a 
 -- ---- records
 
 -- Record r as the lists have it.
-record RecordAt (t : Words) (l : List Words) (r : ℕ) : Type 0 where
-  first : RecordIn t (column l 4) r
-  less : r < length (column l 4)
+record RecordAt (t : Words) (l : Lists) (r : ℕ) : Type 0 where
+  first : RecordIn t l.firsts.now r
+  less : r < length l.firsts.now
   most : count t fields ≤ 128
-  size : word (column l 5) r ≡ size_of t (65536 + r)
-  size_room : r < length (column l 5)
+  size : word l.sizes.now r ≡ size_of t (65536 + r)
+  size_room : r < length l.sizes.now
 
-record_at : {t : Words} {l : List Words} → Lists t l → (r : ℕ) → r < count t records → RecordAt t l r
+record_at : {t : Words} {l : Lists} → ListsOf t l → (r : ℕ) → r < count t records → RecordAt t l r
 record_at h r less =
     let ok = h.passed.types in
     record {
@@ -120,17 +119,17 @@ record_at h r less =
 
 -- ---- pointer types
 
-module _ {t : Words} {l : List Words} {y : ℕ} (h : KnownWord known_type t l y) (entry : 2 ≤ y) where
+module _ {t : Words} {l : Lists} {y : ℕ} (h : KnownWord known_type t l y) (entry : 2 ≤ y) where
   entry_less : y - 2 < count t pointers
   unfolding known_type
   entry_less = omega (arith, ltb-true y (2 + count t pointers) h.known)
 
-  pub entry_inside : (y - 2 < 64) × (y - 2 < length (column l 2))
-  entry_inside = omega (arith, entry_less, few_pointers h.lists.passed.types, h.lists.target_room)
+  pub entry_inside : y - 2 < length l.targets.now
+  entry_inside = omega (arith, entry_less, h.lists.target_room)
 
-  pub entry_target : {x : ℕ} → x ≡ word (column l 2) (y - 2) → x ≡ target t y
+  pub entry_target : word l.targets.now (y - 2) ≡ target t y
   unfolding target
-  entry_target e = e ∙ h.lists.target_is (y - 2) entry_less
+  entry_target = h.lists.target_is (y - 2) entry_less
 
   pub target_word : {x : ℕ} → x ≡ target t y → KnownWord known_target t l x
   target_word e = record { lists = h.lists; known = rw e (target_known h.lists.passed.types y h.known entry) }
@@ -140,16 +139,16 @@ module _ {t : Words} {l : List Words} {y : ℕ} (h : KnownWord known_type t l y)
 abbrev record_of : Words → ℕ → ℕ
 record_of t n = pointed_record t (node_type t (node_a t n))
 
-record FieldIn (t : Words) (l : List Words) (n : ℕ) : Type 0 where
+record FieldIn (t : Words) (l : Lists) (n : ℕ) : Type 0 where
   child : node_a t n < n
-  type : word (column l 1) (node_a t n) % 128 ≡ node_type t (node_a t n)
+  type : word l.notes.now (node_a t n) % 128 ≡ node_type t (node_a t n)
   known : known_type t (node_type t (node_a t n)) ≡ true
   entry : 2 ≤ node_type t (node_a t n)
   far : 65536 ≤ target t (node_type t (node_a t n))
   rec : record_of t n < count t records
   less : node_b t n < field_total t (record_of t n)
 
-field_found : {t : Words} {l : List Words} {n : ℕ} → FieldNode t l n → FieldIn t l n
+field_found : {t : Words} {l : Lists} {n : ℕ} → FieldNode t l n → FieldIn t l n
 unfolding points_to_record
 field_found {t} {l} {n} h =
     let ok = h.lists.passed in
@@ -170,13 +169,13 @@ field_found {t} {l} {n} h =
       less = ltb-true (node_b t n) (field_total t (record_of t n)) fit.1;
     }
 
-module _ {t : Words} {l : List Words} {n : ℕ} (h : FieldNode t l n) where
-  pub child_inside : {a : ℕ} → a ≡ part l n 1 → (a < 512) × (a < length (column l 1))
+module _ {t : Words} {l : Lists} {n : ℕ} (h : FieldNode t l n) where
+  pub child_inside : {a : ℕ} → a ≡ part l n 1 → (a < 512) × (a < length l.notes.now)
   child_inside e =
       let f = field_found h in
       rw (item_is h.lists h.node 1 (omega arith) e) (note_inside h.lists (omega (arith, f.child, h.node)))
 
-  module _ {a ty : ℕ} (e : a ≡ part l n 1) (q : ty ≡ word (column l 1) a % 128) where
+  module _ {a ty : ℕ} (e : a ≡ part l n 1) (q : ty ≡ word l.notes.now a % 128) where
     type_is : ty ≡ node_type t (node_a t n)
     type_is = q ∙ rw (item_is h.lists h.node 1 (omega arith) e) (field_found h).type
 
@@ -186,9 +185,9 @@ module _ {t : Words} {l : List Words} {n : ℕ} (h : FieldNode t l n) where
     pub record_target : {x : ℕ} → x ≡ target t ty → 65536 ≤ x
     record_target p = rw (p, type_is) (field_found h).far
 
-    pub record_is : {x r : ℕ} → x ≡ target t ty → r ≡ x - 65536 → r ≡ record_of t n
+    pub record_is : {x : ℕ} → x ≡ target t ty → x - 65536 ≡ record_of t n
     unfolding pointed_record
-    record_is p s = s ∙ rw (p, type_is)
+    record_is p = rw (p, type_is)
 
   -- The record, and what the lists have of it.
   here : RecordAt t l (record_of t n)
@@ -198,31 +197,31 @@ module _ {t : Words} {l : List Words} {n : ℕ} (h : FieldNode t l n) where
     at : RecordAt t l r
     at = rw e here
 
-    pub record_inside : (r < 32) × (r < length (column l 4))
+    pub record_inside : (r < 32) × (r < length l.firsts.now)
     record_inside = (at.first.few, at.less)
 
     module _ {b : ℕ} (q : b ≡ part l n 2) where
       number_is : b ≡ node_b t n
       number_is = item_is h.lists h.node 2 (omega arith) q
 
-      pub field_number : {f : ℕ} → f ≡ word (column l 4) r → (f + b < 128) × (f + b ≡ first_field t (record_of t n) + node_b t n)
-      field_number p =
+      pub field_number : (word l.firsts.now r + b < 128) × (word l.firsts.now r + b ≡ first_field t (record_of t n) + node_b t n)
+      field_number =
           let less : b < field_total t r = rw (e, number_is) (field_found h).less in
           (omega (arith, at.first.start, at.first.inside, at.most), omega (arith, at.first.start, ap (first_field t) e, number_is))
 
   module _ {f : ℕ} (e : f ≡ first_field t (record_of t n) + node_b t n) where
-    pub field_inside : (f < 128) × (2 * f + 1 < length (column l 3)) × (f < length (column l 6))
+    pub field_inside : (f < 128) × (2 * f + 1 < length l.fields.now) × (f < length l.offsets.now)
     field_inside =
         omega (arith, (field_found h).less, here.first.inside, here.most, h.lists.offset_room, h.lists.field_room)
 
-    pub count_is : {x : ℕ} → x ≡ word (column l 3) (2 * f + 1) → x ≡ field_count t (record_of t n) (node_b t n)
+    pub count_is : word l.fields.now (2 * f + 1) ≡ field_count t (record_of t n) (node_b t n)
     unfolding field_count
-    count_is p =
+    count_is =
         let i = field_found h in
-        p ∙ rw e (h.lists.field_is (first_field t (record_of t n) + node_b t n) (field_in h.lists.passed.types (record_of t n) (node_b t n) i.rec i.less))
+        rw e (h.lists.field_is (first_field t (record_of t n) + node_b t n) (field_in h.lists.passed.types (record_of t n) (node_b t n) i.rec i.less))
 
-    pub offset_is : {x : ℕ} → x ≡ word (column l 6) f → x ≡ field_offset t (record_of t n) (node_b t n)
-    offset_is p = let i = field_found h in p ∙ rw e (h.lists.offset_is (record_of t n) (node_b t n) i.rec i.less)
+    pub offset_is : word l.offsets.now f ≡ field_offset t (record_of t n) (node_b t n)
+    offset_is = let i = field_found h in rw e (h.lists.offset_is (record_of t n) (node_b t n) i.rec i.less)
 
 -- ---- sizes
 
@@ -239,20 +238,17 @@ pub size_type : (t : Words) (x : ℕ) → x < 65536 → 1 ≡ size_of t x
 unfolding size_of
 size_type t x h = rw (lt-ltb x 65536 h)
 
-module _ {t : Words} {l : List Words} {x r : ℕ} (h : KnownWord known_target t l x) (far_off : 65536 ≤ x) (e : r ≡ x - 65536) where
-  less : r < count t records
+module _ {t : Words} {l : Lists} {x : ℕ} (h : KnownWord known_target t l x) (far_off : 65536 ≤ x) where
+  less : x - 65536 < count t records
   less = omega (arith, known_below h.lists.passed.types x h.known)
 
-  pub size_inside : (r < 32) × (r < length (column l 5))
-  size_inside = let g = record_at h.lists r less in (g.first.few, g.size_room)
+  pub size_inside : x - 65536 < length l.sizes.now
+  size_inside = (record_at h.lists (x - 65536) less).size_room
 
-  pub size_is : {v : ℕ} → v ≡ word (column l 5) r → v ≡ size_of t x
-  size_is q =
-      let x_is : 65536 + r ≡ x = omega arith in
-      q ∙ (record_at h.lists r less).size ∙ ap (size_of t) x_is
-
-pub size_same : {l : List Words} {x y r : ℕ} → y ≡ x → ((t : Words) → KnownWord known_target t l y → r ≡ size_of t y) → (t : Words) → KnownWord known_target t l x → r ≡ size_of t x
-size_same e h t w = rw e at (h t (rw e w))
+  pub size_is : word l.sizes.now (x - 65536) ≡ size_of t x
+  size_is =
+      let x_is : 65536 + (x - 65536) ≡ x = omega arith in
+      (record_at h.lists (x - 65536) less).size ∙ ap (size_of t) x_is
 
 -- ---- steps
 
@@ -268,23 +264,3 @@ step_size t y h = rw (le-leb 2 y h) (go (dec_lt (target t y) 65536))
     go : Dec (target t y < 65536) → size_of t (target t y) ≡ (if leb 65536 (target t y) then size_of t (target t y) else 1)
     go (yes less) = rw (lt-leb 65536 (target t y) less) (sym (size_type t (target t y) less))
     go (no more) = rw (le-leb 65536 (target t y) (omega (arith, more)))
-
--- ---- casts
-
-pub drops_no : {b x : ℕ} (f : Bool) → (b ≡ 0 → ⊥) → b ≡ x → false ≡ not (is_pointer x) && f
-unfolding is_pointer
-drops_no {b} f some e = rw (← e, le-leb 1 b (omega (arith, some)))
-
-pub drops_yes : {b x : ℕ} {f g : Bool} → b ≡ 0 → b ≡ x → f ≡ g → f ≡ not (is_pointer x) && g
-unfolding is_pointer
-drops_yes none e same = rw (← e, none) same
-
--- ---- whether bounds go by the type, from the note's lowest byte
-
-pub no_type : {y : ℕ} (x : ℕ) → y ≡ x % 256 → y ≡ 0 → false ≡ pointer_by_type x
-unfolding is_pointer
-no_type x e none = rw (← e, none)
-
-pub some_type : {y : ℕ} (x : ℕ) → y ≡ x % 256 → (y ≡ 0 → ⊥) → ltb y 128 ≡ pointer_by_type x
-unfolding is_pointer
-some_type {y} x e some = rw (← e, le-leb 1 y (omega (arith, some)))

@@ -2,12 +2,10 @@
 use Prim.Native.Nat.{ℕ, ◌+◌, ◌*◌, ◌%◌, ◌≤◌, ◌<◌}
 use mathlib.Core.Bool.{true}
 use mathlib.Core.Path.{◌≡◌, refl, sym, ◌∙◌}
-use mathlib.Core.List.{List}
 use native.Mathlib.Omega.{arith}
 use native.Mathlib.Nat.{le_antisymm}
 use native.Mathlib.Decide.{ℕ_discrete}
 use lib.ListN.{length}
-use Rattle.words.specs.Columns.{column}
 use Rattle.semantics.specs.Words.{Words, word}
 use Rattle.semantics.specs.Table.{nodes, count, known_type, known_target, points_to_record, constant, read, size, kind_of, type_rule, node_kind, node_a, node_b, node_type}
 use Rattle.semantics.specs.Syntax.{Value, Field, step_of}
@@ -15,14 +13,15 @@ use Rattle.semantics.proofs.Tests.{past}
 use Rattle.semantics.proofs.Passed.{require_passes}
 use Rattle.semantics.proofs.Trees.{NodeOk, node_ok, types_at}
 use Rattle.semantics.proofs.Steps.{PlaceOk, field_ok}
-use Rattle.lookups.specs.Lists.{part, Lists, FieldNode, FieldReady, KnownWord, KnownReady}
+use Rattle.lookups.specs.declared.Lists.{Lists}
+use Rattle.lookups.specs.Lists.{part, ListsOf, FieldNode, FieldReady, KnownWord, KnownReady}
 use Rattle.lookups.specs.Nodes.{NodeReady, PlaceTree, ValueTree}
 use Rattle.lookups.proofs.Lookups.{item_inside, note_inside, item_is, noted_type}
 use Rattle.lookups.proofs.Nodes.{place_kind, value_kind, kind_number, count_of, ValueChild, PlaceChild, deref_node, field_node, read_node, address_node, cast_node, malloc_node, Binary, copies, binary_node, copy_points, copy_some}
 
 -- ---- a node's words, as the lists have them
 
-module _ {t : Words} {l : List Words} (lists : Lists t l) {n : ℕ} (node : n < count t nodes) where
+module _ {t : Words} {l : Lists} (lists : ListsOf t l) {n : ℕ} (node : n < count t nodes) where
   pub kind_is : {k x : ℕ} → k ≡ part l n 0 → k ≡ x → node_kind t n ≡ kind_of x
   kind_is e q = kind_number t n (sym (item_is lists node 0 (omega arith) e) ∙ q)
 
@@ -32,12 +31,12 @@ module _ {t : Words} {l : List Words} (lists : Lists t l) {n : ℕ} (node : n < 
   pub b_is : {a : ℕ} → a ≡ part l n 2 → a ≡ node_b t n
   b_is p = item_is lists node 2 (omega arith) p
 
-pub constant_kind : {t : Words} {l : List Words} {n k : ℕ} → Lists t l → n < count t nodes → k ≡ part l n 0 → k ≡ 4 → node_kind t n ≡ constant
+pub constant_kind : {t : Words} {l : Lists} {n k : ℕ} → ListsOf t l → n < count t nodes → k ≡ part l n 0 → k ≡ 4 → node_kind t n ≡ constant
 unfolding kind_of
 constant_kind lists node e q = kind_is lists node e q
 
 -- A size's target is known.
-pub size_known : (t : Words) (n : ℕ) {l : List Words} → node_kind t n ≡ size → Lists t l → n < count t nodes → known_target t (node_a t n) ≡ true
+pub size_known : (t : Words) (n : ℕ) {l : Lists} → node_kind t n ≡ size → ListsOf t l → n < count t nodes → known_target t (node_a t n) ≡ true
 size_known t n i lists node =
     let g : NodeOk t n size (node_a t n) (node_b t n) = rw i at (node_ok t n (lists.passed.node_passes n node)) in
     require_passes (known_target t (node_a t n)) _ _ g.a_ok
@@ -62,18 +61,18 @@ read_type t n k less = rw k (types_at t n (node_a t n) less)
 pub falls_to : {a n t : ℕ} {R : Type 0} → n ≡ t → (a < n) × R → (a < t) × R
 falls_to e h = (omega (arith, h.0), h.1)
 
-module _ {S : Type 0} {vars_of : S → ℕ} {Room : Type 0} {Tree : ℕ → Words → Type 0} {l : List Words} {n : ℕ} (h : NodeReady vars_of Room Tree l n) where
-  pub item_at : (j : ℕ) → j < 3 → (n < 512) × (j < 3) × (n * 3 + j < length (column l 0))
+module _ {S : Type 0} {vars_of : S → ℕ} {Room : Type 0} {Tree : ℕ → Words → Type 0} {l : Lists} {n : ℕ} (h : NodeReady vars_of Room Tree l n) where
+  pub item_at : (j : ℕ) → j < 3 → (n < 512) × (j < 3) × (n * 3 + j < length l.nodes.now)
   item_at j less = item_inside h.lists h.node j less
 
-  pub note_at : (n < 512) × (n < length (column l 1))
+  pub note_at : (n < 512) × (n < length l.notes.now)
   note_at = note_inside h.lists h.node
 
   -- A node before it has words and a note too.
-  pub item_of : {a : ℕ} {R : Type 0} → (a < n) × R → (j : ℕ) → j < 3 → (a < 512) × (j < 3) × (a * 3 + j < length (column l 0))
+  pub item_of : {a : ℕ} {R : Type 0} → (a < n) × R → (j : ℕ) → j < 3 → (a < 512) × (j < 3) × (a * 3 + j < length l.nodes.now)
   item_of less j h₃ = item_inside h.lists (omega (arith, less.0, h.node)) j h₃
 
-  pub note_of : {a : ℕ} {R : Type 0} → (a < n) × R → (a < 512) × (a < length (column l 1))
+  pub note_of : {a : ℕ} {R : Type 0} → (a < n) × R → (a < 512) × (a < length l.notes.now)
   note_of less = note_inside h.lists (omega (arith, less.0, h.node))
 
   value_ready : {x a : ℕ} → ValueChild (vars_of h.state) h.table n x → a ≡ x → (a < n) × NodeReady vars_of Room (ValueTree a) l a
@@ -84,7 +83,7 @@ module _ {S : Type 0} {vars_of : S → ℕ} {Room : Type 0} {Tree : ℕ → Word
   place_ready ch e =
       (rw e ch.less, record { table = h.table; lists = h.lists; node = omega (arith, ch.less, h.node); room = h.room; state = h.state; tree = rw e ch.tree })
 
-module _ {S : Type 0} {vars_of : S → ℕ} {Room : Type 0} {l : List Words} {n : ℕ} (h : NodeReady vars_of Room (PlaceTree n) l n) {k : ℕ} (e : k ≡ part l n 0) where
+module _ {S : Type 0} {vars_of : S → ℕ} {Room : Type 0} {l : Lists} {n : ℕ} (h : NodeReady vars_of Room (PlaceTree n) l n) {k : ℕ} (e : k ≡ part l n 0) where
   pub deref_ready : {a : ℕ} → k ≡ 2 → a ≡ part l n 1 → (a < n) × NodeReady vars_of Room (ValueTree a) l a
   unfolding kind_of
   deref_ready q p = value_ready h (deref_node h.table n (kind_is h.lists h.node e q) h.tree).0 (a_is h.lists h.node p)
@@ -111,11 +110,11 @@ module _ {S : Type 0} {vars_of : S → ℕ} {Room : Type 0} {l : List Words} {n 
       some : {vars o words : ℕ} {v : Value} → PlaceOk vars (Field n o words v) → 1 ≤ words
       some (field_ok less v) = less
 
-module _ {S : Type 0} {vars_of : S → ℕ} {Room : Type 0} {l : List Words} {n : ℕ} (h : NodeReady vars_of Room (ValueTree n) l n) {k : ℕ} (e : k ≡ part l n 0) where
+module _ {S : Type 0} {vars_of : S → ℕ} {Room : Type 0} {l : Lists} {n : ℕ} (h : NodeReady vars_of Room (ValueTree n) l n) {k : ℕ} (e : k ≡ part l n 0) where
   is : {x : ℕ} → k ≡ x → node_kind h.table n ≡ kind_of x
   is q = kind_is h.lists h.node e q
 
-  pub size_ready : k ≡ 9 → ((n < 512) × (n * 3 + 1 < length (column l 0)) × Room) × KnownReady known_target l (part l n 1)
+  pub size_ready : k ≡ 9 → ((n < 512) × (n * 3 + 1 < length l.nodes.now) × Room) × KnownReady known_target l (part l n 1)
   unfolding kind_of
   size_ready q =
       let t = h.table in
@@ -141,10 +140,10 @@ module _ {S : Type 0} {vars_of : S → ℕ} {Room : Type 0} {l : List Words} {n 
     pub left_ready : {x : ℕ} → Binary x → k ≡ x → (a < n) × NodeReady vars_of Room (ValueTree a) l a
     left_ready b q = value_ready h (binary_node b h.table n h.lists.passed h.node (is q) h.tree).left p'
 
-    pub step_ready : {x y : ℕ} → Binary x → k ≡ x → y ≡ word (column l 1) a % 128 → KnownReady known_type l y
+    pub step_ready : {x y : ℕ} → Binary x → k ≡ x → y ≡ word l.notes.now a % 128 → KnownReady known_type l y
     step_ready b q e = record { table = h.table; is_known = (noted_type h.lists (omega (arith, (left_ready b q).0, h.node)) e).1 }
 
-    pub copy_asks : {y z : ℕ} → k ≡ 11 → y ≡ word (column l 1) a % 128 → ((t : Words) → KnownWord known_type t l y → z ≡ step_of t y) → 1 ≤ z
+    pub copy_asks : {y z : ℕ} → k ≡ 11 → y ≡ word l.notes.now a % 128 → ((t : Words) → KnownWord known_type t l y → z ≡ step_of t y) → 1 ≤ z
     unfolding kind_of
     copy_asks q hy hz =
         let noted = noted_type h.lists (omega (arith, (left_ready copies q).0, h.node)) hy in
@@ -175,7 +174,7 @@ module _ {S : Type 0} {vars_of : S → ℕ} {Room : Type 0} {l : List Words} {n 
         go (no q) = left_ready copies (le_antisymm last.1 (past last.0 q))
 
     -- A malloc, if its first child is a constant: the left operand of a copy is a pointer.
-    pub constant_malloc : (10 ≤ k) × (k ≤ 11) → ((t : Words) → Lists t l → a < count t nodes → node_kind t a ≡ constant) → k ≡ 10
+    pub constant_malloc : (10 ≤ k) × (k ≤ 11) → ((t : Words) → ListsOf t l → a < count t nodes → node_kind t a ≡ constant) → k ≡ 10
     unfolding kind_of
     constant_malloc last four = go (ℕ_discrete k 10)
       where
@@ -187,7 +186,7 @@ module _ {S : Type 0} {vars_of : S → ℕ} {Room : Type 0} {l : List Words} {n 
             let int = constant_int t a (four t h.lists (omega (arith, less, h.node))) in
             absurd (int_no_record t (rw (← p', int) at (copy_points t n h.lists.passed h.node (is (le_antisymm last.1 (past last.0 q))))))
 
-  pub drops_ready : k ≡ 8 → (n < 512) × (n * 3 + 2 < length (column l 0)) × (part l n 1 < 512) × (part l n 1 < length (column l 1))
+  pub drops_ready : k ≡ 8 → (n < 512) × (n * 3 + 2 < length l.nodes.now) × (part l n 1 < 512) × (part l n 1 < length l.notes.now)
   drops_ready q =
       let i = item_at h 2 (omega arith) in
       let c = note_of h (cast_ready refl q) in

@@ -2,27 +2,26 @@
 use Prim.Native.Nat.{ℕ, ◌/◌, ◌%◌, ◌<◌}
 use mathlib.Core.Bool.{Bool, true}
 use mathlib.Core.Path.{◌≡◌, sym}
-use mathlib.Core.List.{List}
 use native.Mathlib.Omega.{arith}
 use lib.Dec.{eqb}
-use Rattle.words.specs.Columns.{column}
 use Rattle.semantics.specs.Words.{Words, word}
 use Rattle.semantics.specs.Table.{nodes, count, variable, constant, read, kind_of, sort_of, node_kind, node_a, node_b}
 use Rattle.semantics.specs.Table as Table
 use Rattle.semantics.specs.Check.{is_child}
 use Rattle.semantics.proofs.Passed.{require_passes}
 use Rattle.semantics.proofs.Trees.{NodeOk, node_ok, is_child_true}
-use Rattle.lookups.specs.Lists.{part, Lists}
+use Rattle.lookups.specs.declared.Lists.{Lists}
+use Rattle.lookups.specs.Lists.{part, ListsOf}
 use Rattle.lookups.specs.Nodes.{NodeReady, ValueTree, ReadsVariable}
 use Rattle.lookups.proofs.Lookups.{constant_bit, variable_bit, read_bit}
 use Rattle.lookups.proofs.Nodes.{kind_number, value_node, read_node}
 use Rattle.lookups.proofs.Ready.{kind_is, a_is}
 
-module _ {l : List Words} {n x : ℕ} {f : Bool} (e : x ≡ word (column l 1) n) (taken : f ≡ true) where
-  pub is_constant : f ≡ eqb (x / 256 % 2) 1 → (t : Words) → Lists t l → n < count t nodes → node_kind t n ≡ constant
+module _ {l : Lists} {n x : ℕ} {f : Bool} (e : x ≡ word l.notes.now n) (taken : f ≡ true) where
+  pub is_constant : f ≡ eqb (x / 256 % 2) 1 → (t : Words) → ListsOf t l → n < count t nodes → node_kind t n ≡ constant
   is_constant h t lists node = constant_bit lists node e taken h
 
-  pub is_variable : f ≡ eqb (x / 512 % 2) 1 → (t : Words) → Lists t l → n < count t nodes → sort_of (node_kind t n) ≡ Table.place → node_kind t n ≡ variable
+  pub is_variable : f ≡ eqb (x / 512 % 2) 1 → (t : Words) → ListsOf t l → n < count t nodes → sort_of (node_kind t n) ≡ Table.place → node_kind t n ≡ variable
   is_variable h t lists node sort = variable_bit lists node e taken h sort
 
   pub reads_variable : f ≡ eqb (x / 512 % 2) 1 → ReadsVariable l n
@@ -35,7 +34,7 @@ module _ {l : List Words} {n x : ℕ} {f : Bool} (e : x ≡ word (column l 1) n)
       }
 
 -- A read whose child is noted so.
-pub reads_noted : {l : List Words} {n k a x : ℕ} {f : Bool} → k ≡ part l n 0 → k ≡ 6 → a ≡ part l n 1 → x ≡ word (column l 1) a → f ≡ true → f ≡ eqb (x / 512 % 2) 1 → ReadsVariable l n
+pub reads_noted : {l : Lists} {n k a x : ℕ} {f : Bool} → k ≡ part l n 0 → k ≡ 6 → a ≡ part l n 1 → x ≡ word l.notes.now a → f ≡ true → f ≡ eqb (x / 512 % 2) 1 → ReadsVariable l n
 unfolding kind_of
 reads_noted {n = n} e q p hx taken h =
     record {
@@ -47,7 +46,7 @@ reads_noted {n = n} e q p hx taken h =
     }
 
 -- The node that it reads stands before it.
-pub variable_below : {S : Type 0} {vars_of : S → ℕ} {Room : Type 0} {l : List Words} {n a : ℕ} → a ≡ part l n 1 → NodeReady vars_of Room (ValueTree n) l n → ReadsVariable l n → (a < n) × Unit {0}
+pub variable_below : {S : Type 0} {vars_of : S → ℕ} {Room : Type 0} {l : Lists} {n a : ℕ} → a ≡ part l n 1 → NodeReady vars_of Room (ValueTree n) l n → ReadsVariable l n → (a < n) × Unit {0}
 variable_below {n = n} p h reads =
     let t = h.table in
     let k = reads.each t h.lists h.node (value_node t n h.tree) in

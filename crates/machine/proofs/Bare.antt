@@ -1,12 +1,13 @@
 -- A whole bare call of a table that passed the check, from what its parts did.
+use Rattle.std.specs.Prelude.{Ok, Err}
 use Prim.Native.Nat.{ℕ, ◌+◌, ◌-◌, ◌≤◌, ◌<◌}
 use mathlib.Core.Path.{◌≡◌, refl, sym, ap, ◌∙◌}
-use mathlib.Core.List.{[], ◌∷◌, ◌++◌}
+use mathlib.Core.List.{◌++◌}
 use native.Mathlib.Omega.{arith}
 use lib.ListN.{length, take, replicate, set}
 use lib.Seq.{sets}
 use Rattle.semantics.specs.Words.{Words}
-use Rattle.semantics.specs.Table.{variables, commands, count}
+use Rattle.semantics.specs.Table.{variables, count}
 use Rattle.semantics.specs.Registers.{register_count}
 use Rattle.semantics.specs.Check.{passes, refused, check}
 use Rattle.semantics.specs.Check as Check
@@ -14,15 +15,13 @@ use Rattle.semantics.specs.Run.{registers_below}
 use Rattle.semantics.specs.Bare.{call_fault, run, call}
 use Rattle.semantics.proofs.Safety.{begin_inv}
 use Rattle.semantics.proofs.Agreement.{registers_bared, begin_bared}
+use Rattle.layout.specs.Refusals.{number_of}
+use Rattle.layout.specs.declared.Refusal.{Refusal}
 use Rattle.layout.proofs.Laws.{or_else_pass, or_else_refuse}
 use Rattle.registers.specs.Blocks.{memory, RegistersSet, RegistersPlaced, AllPlaceable}
-use Rattle.bare_commands.specs.Execution as commands
-use Rattle.bare_commands.specs.Execution.{ended_of}
 use Rattle.bare_commands.specs.declared.Ended.{Ended}
 use Rattle.machine.specs.Run.{CanBegin}
-use Rattle.machine.specs.Bare.{bare_answer_of, HasBegunBare, ExecutedBare, CalledBare}
-use Rattle.machine.specs.declared.BareAnswer.{BareAnswer}
-use Rattle.machine.specs.declared.BareAnswer.TheVariants.{Refused}
+use Rattle.machine.specs.Bare.{HasBegunBare, ExecutedBare, CalledBare}
 use Rattle.machine.proofs.Calls.{rest_fault, registers_fit, unused_fits, has_begun}
 
 -- ---- the memory at the start
@@ -60,28 +59,25 @@ module _ {vars : ℕ} {inputs registers vs : Words} (x : CanBegin vars inputs re
 
 -- ---- the answer
 
-pub executed_told : {t vs vs' : Words} {u : ℕ} {e : Ended} (r : BareAnswer) → commands.Executed t (vs ∷ []) u e (vs' ∷ []) → bare_answer_of r ≡ ended_of e → ExecutedBare t vs u r vs'
-executed_told {vs' = vs'} r h same = record { is = rw same h.is }
-
 -- A call that is refused.
-bare_refused : (t inputs registers vs : Words) {n p : ℕ} → call_fault t inputs registers (length vs) ≡ refused n p → CalledBare t inputs registers vs (Refused n p) vs
+bare_refused : (t inputs registers vs : Words) {r : Refusal} → call_fault t inputs registers (length vs) ≡ refused (number_of r.fault) r.place → CalledBare t inputs registers vs (Err r) vs
 unfolding call
 bare_refused t inputs registers vs e = record { is = rw e }
 
-pub bare_table_refused : (t inputs registers vs : Words) {n p : ℕ} → refused n p ≡ check t → CalledBare t inputs registers vs (Refused n p) vs
+pub bare_table_refused : (t inputs registers vs : Words) {r : Refusal} → refused (number_of r.fault) r.place ≡ check t → CalledBare t inputs registers vs (Err r) vs
 unfolding call_fault Check.call_fault
 bare_table_refused t inputs registers vs e =
     bare_refused t inputs registers vs (or_else_refuse (check t) (rest_fault t inputs registers (length vs) (length vs) (length vs)) (sym e))
 
-pub bare_call_refused : (t inputs registers vs : Words) {n p : ℕ} → check t ≡ passes → refused n p ≡ rest_fault t inputs registers (length vs) (length vs) (length vs)
-    → CalledBare t inputs registers vs (Refused n p) vs
+pub bare_call_refused : (t inputs registers vs : Words) {r : Refusal} → check t ≡ passes → refused (number_of r.fault) r.place ≡ rest_fault t inputs registers (length vs) (length vs) (length vs)
+    → CalledBare t inputs registers vs (Err r) vs
 unfolding call_fault Check.call_fault
 bare_call_refused t inputs registers vs ok e =
     bare_refused t inputs registers vs (or_else_pass (check t) (rest_fault t inputs registers (length vs) (length vs) (length vs)) ok ∙ sym e)
 
 -- A call that is begun: its commands, from the memory at the start.
-pub bare_call_executed : {t inputs registers vs vs₁ vs' : Words} {vars u : ℕ} {r : BareAnswer} → check t ≡ passes → passes ≡ rest_fault t inputs registers (length vs) (length vs) (length vs)
-    → vars ≡ count t variables → HasBegunBare vars inputs registers vs vs₁ u → ExecutedBare t vs₁ u r vs' → CalledBare t inputs registers vs r vs'
+pub bare_call_executed : {t inputs registers vs vs₁ vs' : Words} {vars u : ℕ} {r : Ended} → check t ≡ passes → passes ≡ rest_fault t inputs registers (length vs) (length vs) (length vs)
+    → vars ≡ count t variables → HasBegunBare vars inputs registers vs vs₁ u → ExecutedBare t vs₁ u r vs' → CalledBare t inputs registers vs (Ok r) vs'
 unfolding call call_fault Check.call_fault run
 bare_call_executed {t} {inputs} {registers} {vs} ok e total begins executed =
     record { is = rw (or_else_pass (check t) (rest_fault t inputs registers (length vs) (length vs) (length vs)) ok, ← e, ← (begins.begins t total)) executed.is }

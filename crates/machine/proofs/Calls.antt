@@ -1,4 +1,5 @@
 -- A whole call of a table that passed the check, from what its parts did.
+use Rattle.std.specs.Prelude.{Result, Ok, Err, ⊤}
 use Prim.Native.Nat.{ℕ, ◌+◌, ◌*◌, ◌-◌, ◌≤◌, ◌<◌, ◌^◌}
 use mathlib.Core.Path.{◌≡◌, refl, sym, ap, ◌∙◌}
 use mathlib.Core.List.{[], ◌∷◌, ◌++◌}
@@ -10,42 +11,41 @@ use Rattle.semantics.specs.Table.{variables, count}
 use Rattle.semantics.specs.Registers.{register_count}
 use Rattle.semantics.specs.Check.{Verdict, passes, refused, ◌or_else◌, check, arguments_fault, registers_fault, call_fault}
 use Rattle.semantics.specs.Rules.{State}
-use Rattle.semantics.specs.Run.{cleared, registers_below, begin, Ending, ending, Run, commands_below, run, result_of, call}
+use Rattle.semantics.specs.Run as semantics
+use Rattle.semantics.specs.Run.{cleared, registers_below, begin, ending, Run, commands_below, run, result_of, call}
 use Rattle.semantics.specs.Explain.{without_bounds, reason_of, block_start, explanation, explain}
 use Rattle.semantics.proofs.Passed.{Passed, passed, section_ok, section_end}
 use Rattle.semantics.proofs.Safety.{Begun, begun, cleared_inv, begin_inv}
-use Rattle.lookups.specs.Lists.{Lists}
+use Rattle.lookups.specs.declared.Lists.{Lists}
+use Rattle.lookups.specs.Lists.{ListsOf}
 use Rattle.semantics.proofs.Explain.{failure_told}
-use Rattle.steps.specs.Answers.{state_of, check_told}
-use Rattle.layout.specs.Layout.{verdict_of, section_of, layout, layout_by, Stands}
+use Rattle.steps.specs.Answers.{check_told}
+use Rattle.layout.specs.Layout.{section_of, layout, layout_by, Stands}
+use Rattle.layout.specs.Refusals as answer
+use Rattle.layout.specs.Refusals.{Outcome, number_of, verdict_of}
+use Rattle.layout.specs.declared.Refusal.{Refusal}
 use Rattle.layout.specs.declared.Table.{Table}
-use Rattle.layout.specs.declared.Parsed.TheVariants as parsed
-use Rattle.layout.specs.declared.Verdict as told
-use Rattle.layout.specs.declared.Verdict.TheVariants as the
-use Rattle.layout.proofs.Laws.{or_else_pass, or_else_refuse, told_as, item_at}
+use Rattle.layout.proofs.Laws.{or_else_pass, or_else_refuse, item_at}
 use Rattle.words.proofs.Lists.{front_sets, zeros_from}
 use Rattle.registers.specs.Blocks.{memory, Holds, RegistersSet, Alike, AllFit}
 use Rattle.registers.proofs.Blocks.{registers_alike}
-use Rattle.commands.specs.Command.{lists}
 use Rattle.commands.specs.Execution as commands
-use Rattle.commands.specs.Execution.{ended_of, Starts}
+use Rattle.commands.specs.Execution.{ending_of, lists, state_with, Starts}
 use Rattle.steps.specs.declared.FailedCheck.{FailedCheck}
-use Rattle.commands.specs.declared.Ended.{Ended}
-use Rattle.commands.specs.declared.Ended.TheVariants.{Done, Abort, NoRoom}
-use Rattle.machine.specs.Run.{answer_of, Is, Program, CanBegin, HasBegun}
-use Rattle.machine.specs.Explain.{answer_told, reason_by, started, ended_because, TellsEnded, Startable, Executed, Watchable, Called}
-use Rattle.machine.specs.declared.Explained.{Explained}
-use Rattle.machine.specs.declared.Explained.TheVariants.{Refused}
-use Rattle.machine.specs.declared.Explained.TheVariants as the_answer
-use Rattle.machine.specs.declared.Answer.{Answer}
+use Rattle.commands.specs.declared.Ending.{Ending}
+use Rattle.commands.specs.declared.Ending.TheVariants.{Done, Abort, NoRoom}
+use Rattle.machine.specs.Run.{answer_of, Is, IsProgram, CanBegin, HasBegun}
+use Rattle.machine.specs.Explain.{reason_number, reason_by, started, ended_because, TellsEnded, Startable, Executed, Watchable, Called}
+use Rattle.machine.specs.declared.Cause.{Cause}
+use Rattle.machine.specs.declared.Reason.{Reason}
 
 -- ---- what the check answered
 
-pub layout_passes : (t : Words) (v : Verdict) {l : Table} → layout_by t v ≡ parsed.Is l → (v ≡ passes) × (l ≡ layout t)
+pub layout_passes : (t : Words) (v : Verdict) {l : Table} → layout_by t v ≡ answer.is l → (v ≡ passes) × (l ≡ layout t)
 layout_passes t passes e = (refl, sym (cc))
 layout_passes t (refused n p) e = absurd (let z : ◌≡◌ {A = ℕ} 0 1 = cc in omega arith)
 
-pub layout_refused : (t : Words) (v : Verdict) {n p : ℕ} → layout_by t v ≡ parsed.Refused n p → refused n p ≡ v
+pub layout_refused : (t : Words) (v : Verdict) {n p : ℕ} → layout_by t v ≡ answer.refused n p → refused n p ≡ v
 layout_refused t passes e = absurd (let z : ◌≡◌ {A = ℕ} 0 1 = cc in omega arith)
 layout_refused t (refused m q) e = cc
 
@@ -54,13 +54,14 @@ abbrev pub rest_fault : Words → Words → Words → ℕ → ℕ → ℕ → Ve
 rest_fault t inputs registers values bases ends = arguments_fault t inputs values bases ends or_else registers_fault t registers values
 
 -- A call that is refused, whatever word is watched for.
-refused_call : (w : ℕ) (t inputs registers vs bs es : Words) {n p : ℕ} → call_fault t inputs registers (length vs) (length bs) (length es) ≡ refused n p
-    → Called w t inputs registers vs bs es (Refused n p) vs bs es
+refused_call : (w : ℕ) (t inputs registers vs bs es : Words) {r : Refusal}
+    → call_fault t inputs registers (length vs) (length bs) (length es) ≡ refused (number_of r.fault) r.place → Called w t inputs registers vs bs es (Err r) vs bs es
 unfolding call explain
 refused_call w t inputs registers vs bs es e = record { is = rw e }
 
 -- A table that is refused is a call that is refused.
-pub table_refused : (w : ℕ) (t inputs registers vs bs es : Words) {n p : ℕ} → refused n p ≡ check t → Called w t inputs registers vs bs es (Refused n p) vs bs es
+pub table_refused : (w : ℕ) (t inputs registers vs bs es : Words) {r : Refusal} → refused (number_of r.fault) r.place ≡ check t
+    → Called w t inputs registers vs bs es (Err r) vs bs es
 unfolding call_fault
 table_refused w t inputs registers vs bs es e =
     refused_call w t inputs registers vs bs es (or_else_refuse (check t) (rest_fault t inputs registers (length vs) (length bs) (length es)) (sym e))
@@ -74,13 +75,9 @@ module _ (t inputs registers : Words) (values bases ends : ℕ) where
   pub registers_judged : passes ≡ arguments_fault t inputs values bases ends → registers_fault t registers values ≡ rest_fault t inputs registers values bases ends
   registers_judged e = sym (or_else_pass _ _ (sym e))
 
--- `told_as`, in a form that can be searched for.
-pub told_refused : {r : told.Verdict} {v : Verdict} {n p : ℕ} → verdict_of r ≡ v → r ≡ the.Refused n p → refused n p ≡ v
-told_refused e q = told_as e q
-
 -- A call with arguments that are refused is refused.
-pub call_refused : (w : ℕ) (t inputs registers vs bs es : Words) {n p : ℕ} → check t ≡ passes → refused n p ≡ rest_fault t inputs registers (length vs) (length bs) (length es)
-    → Called w t inputs registers vs bs es (Refused n p) vs bs es
+pub call_refused : (w : ℕ) (t inputs registers vs bs es : Words) {r : Refusal} → check t ≡ passes
+    → refused (number_of r.fault) r.place ≡ rest_fault t inputs registers (length vs) (length bs) (length es) → Called w t inputs registers vs bs es (Err r) vs bs es
 unfolding call_fault
 call_refused w t inputs registers vs bs es ok e =
     refused_call w t inputs registers vs bs es (or_else_pass (check t) (rest_fault t inputs registers (length vs) (length bs) (length es)) ok ∙ sym e)
@@ -88,7 +85,7 @@ call_refused w t inputs registers vs bs es ok e =
 -- ---- the memory at the start
 
 -- Lists and a first unused word of a state are all of it but its log.
-holds_state : {s : State} {vs bs es : Words} {u : ℕ} → Holds s vs bs es u → s ≡ state_of (lists vs bs es) u s.log
+holds_state : {s : State} {vs bs es : Words} {u : ℕ} → Holds s vs bs es u → s ≡ state_with (lists vs bs es) u s.log
 holds_state h = rw (h.values, h.bases, h.ends, h.unused)
 
 -- There are at most 64 variables.
@@ -188,7 +185,7 @@ stands {t} ok s h =
     let k = section_ok t s (ok.types.sections s h) in
     record { first = refl; total = refl; limited = k.limited; extent = omega (arith, k.extent, section_end t s) }
 
-module _ {t first sizes offsets notes : Words} {l : Table} (pr : Program t first sizes offsets notes) (el : l ≡ layout t) where
+module _ {t first sizes offsets notes : Words} {l : Table} (pr : IsProgram t first sizes offsets notes) (el : l ≡ layout t) where
   passes_all : Passed t
   passes_all = passed t pr.passed
 
@@ -208,34 +205,34 @@ module _ {t first sizes offsets notes : Words} {l : Table} (pr : Program t first
   commands_stand = rw el (stands passes_all 5 (omega arith))
 
   -- The lists that the evaluator reads.
-  lists_drop : {nodes_at pointers_at fields_at : ℕ} → length first ≡ 33 → length sizes ≡ 32 → length offsets ≡ 128 → length notes ≡ 512 → nodes_at ≡ l.nodes.at → pointers_at ≡ l.pointers.at → fields_at ≡ l.fields.at
-      → Lists t (drop nodes_at t ∷ notes ∷ drop pointers_at t ∷ drop fields_at t ∷ first ∷ sizes ∷ offsets ∷ [])
-  lists_drop {nodes_at} {pointers_at} {fields_at} first_length size_length offset_length notes_length hn hp hf =
+  pub lists_are : (ls : Lists) → ls.nodes.now ≡ rest l.nodes.at t → ls.notes.now ≡ notes → ls.targets.now ≡ rest l.pointers.at t → ls.fields.now ≡ rest l.fields.at t → ls.firsts.now ≡ first → ls.sizes.now ≡ sizes
+      → ls.offsets.now ≡ offsets → ListsOf t ls
+  lists_are ls en eo ep ef er es et =
+      let k = pr.lengths in
       let fs = fields_stand in
       let ps = pointers_stand in
       let ns = nodes_stand in
       let rs = stands passes_all 0 (omega arith) in
+      let ln = en ∙ rest_drop l.nodes.at t in
+      let lp = ep ∙ rest_drop l.pointers.at t in
+      let lf = ef ∙ rest_drop l.fields.at t in
       record {
         passed = passes_all;
-        node_is = λ n j h k. get_or-drop nodes_at t (n * 3 + j) 0 ∙ sym (item_at ns n j (nodes_at + (n * 3 + j)) (omega arith));
-        node_room = omega (arith, length-drop nodes_at t, ns.extent, ns.total);
-        note_is = pr.left.noted;
-        note_room = omega (arith, ns.limited, ns.total);
-        target_is = λ i h. get_or-drop pointers_at t i 0 ∙ sym (item_at ps i 0 (pointers_at + i) (omega arith));
-        target_room = omega (arith, length-drop pointers_at t, ps.extent, ps.total);
-        field_is = λ f h. get_or-drop fields_at t (2 * f + 1) 0 ∙ sym (item_at fs f 1 (fields_at + (2 * f + 1)) (omega arith));
-        field_room = omega (arith, length-drop fields_at t, fs.extent, fs.total);
-        firsts = pr.left.firsts;
-        first_room = omega (arith, rs.limited, rs.total);
-        size_is = pr.left.size_is;
-        size_room = omega (arith, rs.limited, rs.total);
-        offset_is = pr.left.offset_is;
-        offset_room = omega (arith, fs.limited, fs.total);
+        node_is = λ n j h k. rw ln (get_or-drop l.nodes.at t (n * 3 + j) 0 ∙ sym (item_at ns n j (l.nodes.at + (n * 3 + j)) (omega arith)));
+        node_room = rw ln (omega (arith, length-drop l.nodes.at t, ns.extent, ns.total));
+        note_is = rw eo pr.left.noted;
+        note_room = rw eo (omega (arith, k.notes_length, ns.limited, ns.total));
+        target_is = λ i h. rw lp (get_or-drop l.pointers.at t i 0 ∙ sym (item_at ps i 0 (l.pointers.at + i) (omega arith)));
+        target_room = rw lp (omega (arith, length-drop l.pointers.at t, ps.extent, ps.total));
+        field_is = λ f h. rw lf (get_or-drop l.fields.at t (2 * f + 1) 0 ∙ sym (item_at fs f 1 (l.fields.at + (2 * f + 1)) (omega arith)));
+        field_room = rw lf (omega (arith, length-drop l.fields.at t, fs.extent, fs.total));
+        firsts = rw er pr.left.firsts;
+        first_room = rw er (omega (arith, k.first_length, rs.limited, rs.total));
+        size_is = rw es pr.left.size_is;
+        size_room = rw es (omega (arith, k.size_length, rs.limited, rs.total));
+        offset_is = rw et pr.left.offset_is;
+        offset_room = rw et (omega (arith, k.offset_length, fs.limited, fs.total));
       }
-
-  pub lists_are : {nodes_at pointers_at fields_at : ℕ} → length first ≡ 33 → length sizes ≡ 32 → length offsets ≡ 128 → length notes ≡ 512 → nodes_at ≡ l.nodes.at → pointers_at ≡ l.pointers.at → fields_at ≡ l.fields.at
-      → Lists t (rest nodes_at t ∷ notes ∷ rest pointers_at t ∷ rest fields_at t ∷ first ∷ sizes ∷ offsets ∷ [])
-  lists_are {nodes_at} {pointers_at} {fields_at} hf hs ht hn en ep ef = rw (rest_drop nodes_at t, rest_drop pointers_at t, rest_drop fields_at t) (lists_drop hf hs ht hn en ep ef)
 
   module _ (inputs registers vs bs es : Words) (e : passes ≡ rest_fault t inputs registers (length vs) (length bs) (length es)) where
     not_refused : call_fault t inputs registers (length vs) (length bs) (length es) ≡ passes
@@ -257,7 +254,7 @@ module _ {t first sizes offsets notes : Words} {l : Table} (pr : Program t first
       unfolding state
       begins = h.begins t (hv ∙ variables_stand.total)
 
-      same_state : state ≡ state_of (lists v₁ b₁ e₁) u state.log
+      same_state : state ≡ state_with (lists v₁ b₁ e₁) u state.log
       same_state = holds_state begins
 
       first_length : length v₁ ≡ length vs
@@ -272,13 +269,11 @@ module _ {t first sizes offsets notes : Words} {l : Table} (pr : Program t first
         pub watched_small : w < 2 ^ 32
         watched_small = omega (arith, (watch.room not_refused).1, call_begun.lists.most)
 
-        pub call_startable : {x : ℕ} → x ≡ w → Startable t l first sizes offsets notes u x v₁ b₁ e₁
+        pub call_startable : {x : ℕ} → x ≡ w → Startable t u x v₁ b₁ e₁
         unfolding state
         call_startable e =
             let room = watch.room not_refused in
             record {
-              program = pr;
-              layout_is = el;
               log = state.log;
               inv = starts;
               most = omega (arith, first_length, call_begun.lists.most);
@@ -286,24 +281,24 @@ module _ {t first sizes offsets notes : Words} {l : Table} (pr : Program t first
               upto = omega (arith, room.1, first_length);
             }
 
-        pub call_executed : {x : ℕ} {r : Explained} {vs' bs' es' : Words} → x ≡ w → Executed t v₁ b₁ e₁ u x r vs' bs' es' → Called w t inputs registers vs bs es r vs' bs' es'
+        pub call_executed : {x : ℕ} {r : Ending Cause} {vs' bs' es' : Words} → x ≡ w → Executed t v₁ b₁ e₁ u x r vs' bs' es' → Called w t inputs registers vs bs es (Ok r) vs' bs' es'
         unfolding call run explain state
         call_executed q x = record { is = rw (not_refused, ← q, same_state) (x.meets state.log starts) }
 
 -- ---- a run's ending, told as an answer
 
-same_ending : {e e' : Ending} {u u' : ℕ} → ending e u ≡ ending e' u' → e ≡ e'
+same_ending : {e e' : semantics.Ending} {u u' : ℕ} → ending e u ≡ ending e' u' → e ≡ e'
 same_ending h = cc
 
 -- An abort tells the newest check of its log.
-ended_explained : {t : Words} {w : ℕ} (vars : ℕ) {s : State} {o : Run} (e : Ended) → ended_of e ≡ (result_of o).answer → commands.Tells t w s o e
+ended_explained : {t : Words} {w : ℕ} (vars : ℕ) {s : State} {o : Run} (e : Ending FailedCheck) → ending_of e ≡ (result_of o).answer → commands.Tells t w s o e
     → ended_because e ≡ started (block_start o.state.log w) (explanation vars o.ending o.state.log)
 ended_explained vars (Done u) h commands.tells_done = rw (← same_ending h)
 ended_explained {t} vars {s = s} {o = o} (Abort c u x) h (commands.tells_abort failed found) =
     rw (← same_ending h, failure_told vars t c c (commands_below t c s).state (check_told x) o.state failed, found)
 ended_explained vars (NoRoom c u) h commands.tells_no_room = rw (← same_ending h)
 
-pub told_executed : {t vs bs es : Words} {u w : ℕ} {e : Ended} {r : Explained} {vs' bs' es' : Words} → commands.Executed t (lists vs bs es) u w e (lists vs' bs' es') → TellsEnded e r
+pub told_executed : {t vs bs es : Words} {u w : ℕ} {e : Ending FailedCheck} {r : Ending Cause} {vs' bs' es' : Words} → commands.Executed t (lists vs bs es) u w e (lists vs' bs' es') → TellsEnded e r
     → Executed t vs bs es u w r vs' bs' es'
 told_executed {t} {e = e} h told =
     record {
@@ -312,16 +307,10 @@ told_executed {t} {e = e} h told =
           rw (told.answer, told.explanation, m.answer, m.values, m.bases, m.ends, ended_explained (count t variables) e m.answer m.tells);
     }
 
-pub told_done : {e : Ended} {u : ℕ} → e ≡ Done u → TellsEnded e (the_answer.Done u)
-told_done q = rw q (record { answer = refl; explanation = refl })
-
-pub told_abort : {e : Ended} {c u r : ℕ} {x : FailedCheck} → e ≡ Abort c u x → r ≡ reason_by x.place x.base x.end
-    → TellsEnded e (the_answer.Abort c u (record { node = x.node; place = x.place; words = x.words; base = x.base; end = x.end; reason = r; first = x.block }))
+pub told_abort : {e : Ending FailedCheck} {c u : ℕ} {r : Reason} {x : FailedCheck} → e ≡ Abort c u x → reason_number r ≡ reason_by x.place x.base x.end
+    → TellsEnded e (Abort c u (record { node = x.node; place = x.place; words = x.words; base = x.base; end = x.end; reason = r; first = x.block }))
 unfolding reason_of without_bounds
-told_abort q h = rw (q, h) (record { answer = refl; explanation = refl })
-
-pub told_no_room : {e : Ended} {c u : ℕ} → e ≡ NoRoom c u → TellsEnded e (the_answer.NoRoom c u)
-told_no_room q = rw q (record { answer = refl; explanation = refl })
+told_abort q h = rw q (record { answer = refl; explanation = rw h refl })
 
 -- ---- a call in which nothing is to be found
 
@@ -331,8 +320,8 @@ end_watchable t inputs registers vs bs es =
     record { room = λ e. ((begin_inv (begun t inputs registers (length vs) (length bs) (length es) e)).high, omega arith) }
 
 -- Its answer alone is that of the run.
-pub call_answered : {w : ℕ} {t inputs registers vs bs es : Words} {e : Explained} {r : Answer} {vs' bs' es' : Words} → Called w t inputs registers vs bs es e vs' bs' es' → answer_of r ≡ answer_told e
-    → Is (call t inputs registers vs bs es) r vs' bs' es'
+pub call_answered : {w : ℕ} {t inputs registers vs bs es : Words} {e : Result (Ending Cause) Refusal} {r : Result (Ending ⊤) Refusal} {vs' bs' es' : Words}
+    → Called w t inputs registers vs bs es e vs' bs' es' → answer_of r ≡ answer_of e → Is (call t inputs registers vs bs es) r vs' bs' es'
 call_answered h same =
     let all = ap (λ x. x.result) h.is in
     record { answer = same ∙ ap (λ x. x.answer) all; values = ap (λ x. x.values) all; bases = ap (λ x. x.bases) all; ends = ap (λ x. x.ends) all }

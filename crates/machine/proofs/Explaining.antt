@@ -1,4 +1,5 @@
 -- What is told of an abort: from a first call, if its bounds lie in a variable or a register, else from a second.
+use Rattle.std.specs.Prelude.{Result, Ok}
 use Prim.Native.Nat.{ℕ, ◌+◌, ◌≤◌, ◌<◌}
 use mathlib.Core.Bool.{true, false}
 use mathlib.Core.Path.{◌≡◌, refl, sym, ap, ◌∙◌}
@@ -21,13 +22,20 @@ use Rattle.semantics.proofs.Starts.{block_start_none}
 use Rattle.semantics.proofs.Causes.{because_is, aborted_not, cause_is, reason_absent, reason_present}
 use Rattle.semantics.proofs.Explain.{abort_base_inside, register_block_start}
 use Rattle.registers.specs.Blocks.{in_register, past_all}
-use Rattle.machine.specs.Explain.{cause_told, explanation_told, explained_of, starting_at, started, Declared, of_variable, of_register, Watchable, Called}
-use Rattle.machine.proofs.Calls.{end_watchable}
+use Rattle.machine.specs.Explain.{reason_number, cause_told, explanation_of, explanation_told, explained_of, starting_at, started, Declared, of_variable, of_register, Watchable, Called}
 use Rattle.machine.specs.declared.Cause.{Cause}
-use Rattle.machine.specs.declared.Explained.{Explained}
-use Rattle.machine.specs.declared.Explained.TheVariants.{Abort}
+use Rattle.machine.specs.declared.Reason.{Reason}
+use Rattle.machine.specs.declared.Reason.TheVariants.{NoBounds, BeforeBase, PastEnd}
+use Rattle.commands.specs.declared.Ending.{Ending}
+use Rattle.commands.specs.declared.Ending.TheVariants.{Done, Abort, NoRoom}
+use Rattle.layout.specs.declared.Refusal.{Refusal}
 
 -- ---- what an explanation tells
+
+no_bounds_is : (r : Reason) → reason_number r ≡ 1 → r ≡ NoBounds
+no_bounds_is NoBounds e = refl
+no_bounds_is BeforeBase e = absurd (omega (arith, e))
+no_bounds_is PastEnd e = absurd (omega (arith, e))
 
 both_parts : (t inputs registers vs bs es : Words)
     → record { result = call t inputs registers vs bs es; explanation = (explain t inputs registers vs bs es).explanation } ≡ explain t inputs registers vs bs es
@@ -39,16 +47,22 @@ unstarted : (n : ℕ) (x : Explanation) → started n x ≡ not_aborted → star
 unstarted n not_aborted e = refl
 unstarted n (because x) e = absurd (aborted_not e)
 
+-- An ending that is no abort has no explanation.
+pub none_told : (e : Ending Cause) → ((command unused : ℕ) (x : Cause) → e ≡ Abort command unused x → ⊥) → explanation_of e ≡ not_aborted
+none_told (Done u) other = refl
+none_told (Abort c u x) other = absurd (other c u x refl)
+none_told (NoRoom c u) other = refl
+
 module _ {t inputs registers vs bs es : Words} where
   -- A call that did not abort is explained.
-  pub no_abort : {w : ℕ} {r : Explained} {v₁ b₁ e₁ : Words} → Called w t inputs registers vs bs es r v₁ b₁ e₁ → explanation_told r ≡ not_aborted
+  pub no_abort : {w : ℕ} {r : Result (Ending Cause) Refusal} {v₁ b₁ e₁ : Words} → Called w t inputs registers vs bs es r v₁ b₁ e₁ → explanation_told r ≡ not_aborted
       → explained_of r v₁ b₁ e₁ ≡ explain t inputs registers vs bs es
   no_abort h none =
       h.is ∙ ap (λ x. record { result = call t inputs registers vs bs es; explanation = x }) (unstarted _ _ (sym (ap (λ x. x.explanation) h.is) ∙ none))
       ∙ both_parts t inputs registers vs bs es
 
   -- The cause of an abort, and the state of the run that the rules have there.
-  module _ {w c u : ℕ} {x : Cause} {v₁ b₁ e₁ : Words} (h : Called w t inputs registers vs bs es (Abort c u x) v₁ b₁ e₁) where
+  module _ {w c u : ℕ} {x : Cause} {v₁ b₁ e₁ : Words} (h : Called w t inputs registers vs bs es (Ok (Abort c u x)) v₁ b₁ e₁) where
     abbrev log : List Event
     log = (run t inputs registers (length vs)).state.log
 
@@ -79,11 +93,11 @@ module _ {t inputs registers vs bs es : Words} where
     from_check = cause_is (count t variables) (run t inputs registers (length vs)).ending log told.cause (rw not_refused at told.is)
 
     -- It is told with the first word f, if that is the cause's.
-    first_told : {x' : Cause} {f : ℕ} → cause_told x' ≡ starting_at f (cause_told x) → f ≡ told.cause.first → explained_of (Abort c u x') v₁ b₁ e₁ ≡ explain t inputs registers vs bs es
+    first_told : (x' : Cause) {f : ℕ} → cause_told x' ≡ starting_at f (cause_told x) → f ≡ told.cause.first → explained_of (Ok (Abort c u x')) v₁ b₁ e₁ ≡ explain t inputs registers vs bs es
     unfolding explain
-    first_told {x'} {f} e q =
+    first_told x' {f} e q =
         let whole : because (cause_told x') ≡ (explain t inputs registers vs bs es).explanation = ap because (e ∙ ap (starting_at f) told.same ∙ ap (λ n. starting_at n told.cause) q) ∙ sym told.is in
-        let same : (explained_of (Abort c u x') v₁ b₁ e₁).result ≡ call t inputs registers vs bs es = ap (λ y. y.result) h.is in
+        let same : (explained_of (Ok (Abort c u x')) v₁ b₁ e₁).result ≡ call t inputs registers vs bs es = ap (λ y. y.result) h.is in
         rw (same, whole)
 
     abbrev check : BoundsCheck
@@ -95,7 +109,7 @@ module _ {t inputs registers vs bs es : Words} where
     base_is : x.base ≡ check.base
     base_is = ap (λ y. y.check.base) told.same
 
-    reason_is : x.reason ≡ reason_of check
+    reason_is : reason_number x.reason ≡ reason_of check
     reason_is = ap (λ y. y.reason) told.same ∙ ap (λ y. y.reason) from_check
 
     b : Begun t inputs registers (length vs) (length bs) (length es)
@@ -107,18 +121,18 @@ module _ {t inputs registers vs bs es : Words} where
     -- ---- bounds that are absent
 
     -- No block has the word after the last, so that 0 is told.
-    pub absent_told : w ≡ length vs → x.reason ≡ 1 → explained_of (Abort c u x) v₁ b₁ e₁ ≡ explain t inputs registers vs bs es
+    pub absent_told : w ≡ length vs → x.reason ≡ NoBounds → explained_of (Ok (Abort c u x)) v₁ b₁ e₁ ≡ explain t inputs registers vs bs es
     unfolding first_word
     absent_told end one =
         let inv = (begun_runs b).inv in
-        let none : without_bounds check ≡ true = reason_absent check (sym reason_is ∙ one) in
-        first_told refl (ap (λ y. y.first) told.same ∙ block_start_none inv.blocks w (inr (omega (arith, inv.high))) ∙ sym (first_is ∙ rw none))
+        let none : without_bounds check ≡ true = reason_absent check (sym reason_is ∙ ap reason_number one) in
+        first_told x refl (ap (λ y. y.first) told.same ∙ block_start_none inv.blocks w (inr (omega (arith, inv.high))) ∙ sym (first_is ∙ rw none))
 
     -- ---- bounds that are there
 
-    module _ (some : x.reason ≡ 1 → ⊥) where
+    module _ (some : x.reason ≡ NoBounds → ⊥) where
       bounded : without_bounds check ≡ false
-      bounded = reason_present check (λ e. some (reason_is ∙ e))
+      bounded = reason_present check (λ e. some (no_bounds_is x.reason (reason_is ∙ e)))
 
       inside : (0 < x.base) × (x.base < length vs)
       inside = omega (arith, abort_base_inside t inputs registers vs bs es not_refused told.cause told.is bounded, base_is)
@@ -131,14 +145,14 @@ module _ {t inputs registers vs bs es : Words} where
       unfolding first_word
       of_blocks more = first_is ∙ rw (bounded, ← base_is, lt-leb x.base (count t variables) more)
 
-      pub declared_told : {x' : Cause} {f : ℕ} → Declared (length inputs) registers x.base f → (f ≡ 0 → ⊥) → cause_told x' ≡ starting_at f (cause_told x)
-          → explained_of (Abort c u x') v₁ b₁ e₁ ≡ explain t inputs registers vs bs es
-      declared_told (of_variable less) other e = first_told e (sym (of_variables (omega (arith, b.lists.inputs_length))))
-      declared_told (of_register more (in_register i less from upto)) other e =
+      pub declared_told : (x' : Cause) {f : ℕ} → Declared (length inputs) registers x.base f → (f ≡ 0 → ⊥) → cause_told x' ≡ starting_at f (cause_told x)
+          → explained_of (Ok (Abort c u x')) v₁ b₁ e₁ ≡ explain t inputs registers vs bs es
+      declared_told x' (of_variable less) other e = first_told x' e (sym (of_variables (omega (arith, b.lists.inputs_length))))
+      declared_told x' (of_register more (in_register i less from upto)) other e =
           let first : length inputs + 1 ≡ 1 + count t variables = omega (arith, b.lists.inputs_length) in
           let start = ap (λ k. register_start k registers i) first in
-          first_told e (start ∙ sym (of_blocks (omega (arith, b.lists.inputs_length)) ∙ register_block_start t inputs registers vs bs es not_refused i x.base less (omega (arith, start)) (omega (arith, start))))
-      declared_told (of_register more (past_all from)) other e = absurd (other refl)
+          first_told x' e (start ∙ sym (of_blocks (omega (arith, b.lists.inputs_length)) ∙ register_block_start t inputs registers vs bs es not_refused i x.base less (omega (arith, start)) (omega (arith, start))))
+      declared_told x' (of_register more (past_all from)) other e = absurd (other refl)
 
       -- ---- a block: the second call
 
@@ -182,54 +196,9 @@ module _ {t inputs registers vs bs es : Words} where
         unfolding explain
         same_explanation = rw (same_lengths.values, same_lengths.bases, same_lengths.ends)
 
-        pub second_told : {r : Explained} {v₂ b₂ e₂ : Words} → Called w' t inputs registers v₁ b₁ e₁ r v₂ b₂ e₂ → explained_of r v₂ b₂ e₂ ≡ explain t inputs registers vs bs es
+        pub second_told : {r : Result (Ending Cause) Refusal} {v₂ b₂ e₂ : Words} → Called w' t inputs registers v₁ b₁ e₁ r v₂ b₂ e₂ → explained_of r v₂ b₂ e₂ ≡ explain t inputs registers vs bs es
         second_told {r} {v₂} {b₂} {e₂} g =
             let first : block_start log w' ≡ told.cause.first = ap (block_start log) e ∙ sym (of_blocks (past declared zero).1) in
             let whole : started (block_start log w') (explain t inputs registers vs bs es).explanation ≡ (explain t inputs registers vs bs es).explanation =
             ap (started (block_start log w')) told.is ∙ ap (λ n. because (starting_at n told.cause)) first ∙ sym told.is in
             rw (same_lengths.values, same_call, same_explanation, whole) at g.is ∙ both_parts t inputs registers vs bs es
-
--- ---- the two runs
-
--- Before the first call the lists are those that were lent. Before the second, word w is watched for, and whatever that call answers is to be told.
-pub data Phase (t inputs registers vs bs es : Words) (w : ℕ) (v b e : Words) : Type 0 where
-  first_run : w ≡ length vs → v ≡ vs → b ≡ bs → e ≡ es → Phase t inputs registers vs bs es w v b e
-  second_run : w < length vs → Watchable w t inputs registers v b e
-      → ((r : Explained) (v₂ b₂ e₂ : Words) → Called w t inputs registers v b e r v₂ b₂ e₂ → explained_of r v₂ b₂ e₂ ≡ explain t inputs registers vs bs es)
-      → Phase t inputs registers vs bs es w v b e
-
-module _ {t inputs registers vs bs es : Words} {w : ℕ} {v b e : Words} where
-  pub phase_watchable : Phase t inputs registers vs bs es w v b e → Watchable w t inputs registers v b e
-  phase_watchable (first_run end hv hb he) = rw (end, hv, hb, he) (end_watchable t inputs registers vs bs es)
-  phase_watchable (second_run less watch tells) = watch
-
-  module _ {v₁ b₁ e₁ : Words} where
-    pub phase_no_abort : (r : Explained) → Phase t inputs registers vs bs es w v b e → Called w t inputs registers v b e r v₁ b₁ e₁ → explanation_told r ≡ not_aborted
-        → explained_of r v₁ b₁ e₁ ≡ explain t inputs registers vs bs es
-    phase_no_abort r (first_run end hv hb he) h none = no_abort (rw (hv, hb, he) at h) none
-    phase_no_abort r (second_run less watch tells) h none = tells r v₁ b₁ e₁ h
-
-    module _ {c u : ℕ} {x : Cause} (h : Called w t inputs registers v b e (Abort c u x) v₁ b₁ e₁) where
-      pub phase_second : Phase t inputs registers vs bs es w v b e → w < length vs → explained_of (Abort c u x) v₁ b₁ e₁ ≡ explain t inputs registers vs bs es
-      phase_second (first_run end hv hb he) less = absurd (omega arith)
-      phase_second (second_run below watch tells) less = tells (Abort c u x) v₁ b₁ e₁ h
-
-      pub phase_absent : Phase t inputs registers vs bs es w v b e → length vs ≤ w → x.reason ≡ 1 → explained_of (Abort c u x) v₁ b₁ e₁ ≡ explain t inputs registers vs bs es
-      phase_absent (first_run end hv hb he) more one = absent_told (rw (hv, hb, he) at h) end one
-      phase_absent (second_run below watch tells) more one = absurd (omega arith)
-
-      pub phase_whole : Phase t inputs registers vs bs es w v b e → Whole registers
-      phase_whole p = registers_whole h
-
-      pub phase_declared : {x' : Cause} {f : ℕ} → Phase t inputs registers vs bs es w v b e → length vs ≤ w → (x.reason ≡ 1 → ⊥) → Declared (length inputs) registers x.base f → (f ≡ 0 → ⊥)
-          → cause_told x' ≡ starting_at f (cause_told x) → explained_of (Abort c u x') v₁ b₁ e₁ ≡ explain t inputs registers vs bs es
-      phase_declared (first_run end hv hb he) more some declared other same = declared_told (rw (hv, hb, he) at h) some declared other same
-      phase_declared (second_run below watch tells) more some declared other same = absurd (omega arith)
-
-      pub phase_again : {f w' : ℕ} → Phase t inputs registers vs bs es w v b e → length vs ≤ w → (x.reason ≡ 1 → ⊥) → Declared (length inputs) registers x.base f → f ≡ 0 → w' ≡ x.base
-          → (w' < length vs) × Phase t inputs registers vs bs es w' v₁ b₁ e₁
-      phase_again (first_run end hv hb he) more some declared zero same =
-          let h' = rw (hv, hb, he) at h in
-          let less = (inside h' some).1 in
-          (omega arith, second_run (omega arith) (second_watchable h' some declared zero same) (λ r v₂ b₂ e₂ g. second_told h' some declared zero same {r = r} g))
-      phase_again (second_run below watch tells) more some declared zero same = absurd (omega arith)

@@ -9,9 +9,9 @@ use Rattle.semantics.specs.Explain.{without_bounds, reason_of}
 use Rattle.machine.specs.Explain.{reason_by}
 
 module _ (place base end : ℕ) where
-  pub no_bounds : base + end ≡ 0 → 1 ≡ reason_by place base end
+  pub no_bounds : base ≡ 0 → end ≡ 0 → 1 ≡ reason_by place base end
   unfolding reason_of without_bounds
-  no_bounds none = rw (eq-eqb base 0 (omega arith), eq-eqb end 0 (omega arith))
+  no_bounds b e = rw (eq-eqb base 0 b, eq-eqb end 0 e)
 
   -- One of them is not 0.
   some : (base + end ≡ 0 → ⊥) → eqb base 0 && eqb end 0 ≡ false

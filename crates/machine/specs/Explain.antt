@@ -1,48 +1,50 @@
--- A whole call whose abort is explained: the answer's enum as the numbers and values of request 4. Beside it a word may be watched for, to find the
+-- A whole call whose abort is explained: the answer as the numbers and values of request 4. Beside it a word may be watched for, to find the
 -- block that has it.
-use Rattle.std.specs.Prelude.{ℕ, ◌+◌, ◌≤◌, ◌<◌, ◌≡◌, List, length}
+use Rattle.std.specs.Prelude.{ℕ, ◌+◌, ◌≤◌, ◌<◌, ◌≡◌, List, Result, Ok, Err, length}
 use Rattle.semantics.specs.Words.{Words}
 use Rattle.semantics.specs.Table.{variables, commands, count}
 use Rattle.semantics.specs.Check.{passes, call_fault}
 use Rattle.semantics.specs.Rules.{Event}
 use Rattle.semantics.specs.Run as semantics
-use Rattle.semantics.specs.Run.{refusal, ending, done, abort, out_of_memory, Run, begin, commands_below, run, result_of}
+use Rattle.semantics.specs.Run.{Run, begin, commands_below, run, result_of}
 use Rattle.semantics.specs.Explain as semantics_explain
 use Rattle.semantics.specs.Explain.{reason_of, block_start, Explanation, not_aborted, because, explanation, explain}
-use Rattle.steps.specs.Answers.{state_of, check_told}
-use Rattle.layout.specs.Layout.{layout}
-use Rattle.layout.specs.declared.Table.{Table}
-use Rattle.commands.specs.Command.{lists}
-use Rattle.commands.specs.Execution.{ended_of, Starts}
-use Rattle.commands.specs.declared.Ended.{Ended}
-use Rattle.commands.specs.declared.Ended.TheVariants as ended
+use Rattle.steps.specs.Answers.{check_told}
+use Rattle.layout.specs.declared.Refusal.{Refusal}
+use Rattle.commands.specs.Execution.{ending_of, lists, state_with, Starts}
+use Rattle.commands.specs.declared.Ending.{Ending}
+use Rattle.commands.specs.declared.Ending.TheVariants.{Done, Abort, NoRoom}
+use Rattle.steps.specs.declared.FailedCheck.{FailedCheck}
 use Rattle.registers.specs.Blocks.{RegisterOf}
-use Rattle.machine.specs.Run.{Program}
+use Rattle.machine.specs.Run.{answer_of}
+use Rattle.machine.specs.declared.Reason.{Reason}
+use Rattle.machine.specs.declared.Reason.TheVariants.{NoBounds, BeforeBase, PastEnd}
 use Rattle.machine.specs.declared.Cause.{Cause}
-use Rattle.machine.specs.declared.Explained.{Explained}
-use Rattle.machine.specs.declared.Explained.TheVariants.{Refused, Done, Abort, NoRoom}
+
+-- "Reasons: 1 no bounds, 2 before the base, 3 past the end."
+abbrev pub reason_number : Reason → ℕ
+reason_number NoBounds = 1
+reason_number BeforeBase = 2
+reason_number PastEnd = 3
 
 -- The cause of an abort.
 abbrev pub cause_told : Cause → semantics_explain.Cause
 cause_told x =
-    record { check = record { node = x.node; at = x.place; words = x.words; base = x.base; end = x.end }; reason = x.reason; first = x.first }
+    record { check = record { node = x.node; at = x.place; words = x.words; base = x.base; end = x.end }; reason = reason_number x.reason; first = x.first }
 
--- What an answer says, as for the run, and its explanation.
-abbrev pub answer_told : Explained → semantics.Answer
-answer_told (Refused n p) = refusal n p
-answer_told (Done u) = ending done u
-answer_told (Abort c u x) = ending (abort c) u
-answer_told (NoRoom c u) = ending (out_of_memory c) u
+-- The explanation of an ending, and of an answer.
+abbrev pub explanation_of : Ending Cause → Explanation
+explanation_of (Done u) = not_aborted
+explanation_of (Abort c u x) = because (cause_told x)
+explanation_of (NoRoom c u) = not_aborted
 
-abbrev pub explanation_told : Explained → Explanation
-explanation_told (Refused n p) = not_aborted
-explanation_told (Done u) = not_aborted
-explanation_told (Abort c u x) = because (cause_told x)
-explanation_told (NoRoom c u) = not_aborted
+abbrev pub explanation_told : Result (Ending Cause) Refusal → Explanation
+explanation_told (Ok e) = explanation_of e
+explanation_told (Err r) = not_aborted
 
 -- An answer and three lists, as what the tool is to answer and to leave. No two answers say the same.
-abbrev pub explained_of : Explained → Words → Words → Words → semantics_explain.Explained
-explained_of r vs bs es = record { result = record { answer = answer_told r; values = vs; bases = bs; ends = es }; explanation = explanation_told r }
+abbrev pub explained_of : Result (Ending Cause) Refusal → Words → Words → Words → semantics_explain.Explained
+explained_of r vs bs es = record { result = record { answer = answer_of r; values = vs; bases = bs; ends = es }; explanation = explanation_told r }
 
 -- The reason of a check with this place wanted and these bounds.
 abbrev pub reason_by : ℕ → ℕ → ℕ → ℕ
@@ -64,19 +66,17 @@ pub data Declared (vars : ℕ) (l : Words) (w : ℕ) : ℕ → Type 0 where
   of_register : {first : ℕ} → vars < w → RegisterOf l (vars + 1) w first → Declared vars l w first
 
 -- What a run's ending says.
-abbrev pub ended_because : Ended → Explanation
-ended_because (ended.Done u) = not_aborted
-ended_because (ended.Abort c u x) = because (record { check = check_told x; reason = reason_of (check_told x); first = x.block })
-ended_because (ended.NoRoom c u) = not_aborted
+abbrev pub ended_because : Ending FailedCheck → Explanation
+ended_because (Done u) = not_aborted
+ended_because (Abort c u x) = because (record { check = check_told x; reason = reason_of (check_told x); first = x.block })
+ended_because (NoRoom c u) = not_aborted
 
-pub record TellsEnded (e : Ended) (r : Explained) : Type 0 where
-  pub answer : answer_told r ≡ ended_of e
-  pub explanation : explanation_told r ≡ ended_because e
+pub record TellsEnded (e : Ending FailedCheck) (r : Ending Cause) : Type 0 where
+  pub answer : ending_of r ≡ ending_of e
+  pub explanation : explanation_of r ≡ ended_because e
 
--- The table's layout, and lists that hold a state which a run of the table can begin with; no block has word w yet.
-pub record Startable (t : Words) (l : Table) (first sizes offsets notes : Words) (u w : ℕ) (vs bs es : Words) : Type 0 where
-  pub program : Program t first sizes offsets notes
-  pub layout_is : l ≡ layout t
+-- Lists that hold a state which a run of the table can begin with; no block has word w yet.
+pub record Startable (t : Words) (u w : ℕ) (vs bs es : Words) : Type 0 where
   pub log : List Event
   pub inv : Starts t (lists vs bs es) u log
   pub most : length vs ≤ 65536
@@ -88,16 +88,16 @@ abbrev pub seen_at : ℕ → ℕ → Run → semantics_explain.Explained
 seen_at vars w o = record { result = result_of o; explanation = started (block_start o.state.log w) (explanation vars o.ending o.state.log) }
 
 -- The commands were run from these lists and this first unused word, and ended so, whatever the log at the start.
-pub record Executed (t vs bs es : Words) (u w : ℕ) (r : Explained) (vs' bs' es' : Words) : Type 0 where
+pub record Executed (t vs bs es : Words) (u w : ℕ) (r : Ending Cause) (vs' bs' es' : Words) : Type 0 where
   pub meets : (log : List Event) → Starts t (lists vs bs es) u log
-      → explained_of r vs' bs' es' ≡ seen_at (count t variables) w (commands_below t (count t commands) (state_of (lists vs bs es) u log))
+      → explained_of (Ok r) vs' bs' es' ≡ seen_at (count t variables) w (commands_below t (count t commands) (state_with (lists vs bs es) u log))
 
 -- If the run is begun, no block has word w at its beginning, and w is within the memory or its end.
 pub record Watchable (w : ℕ) (t inputs registers vs bs es : Words) : Type 0 where
   pub room : call_fault t inputs registers (length vs) (length bs) (length es) ≡ passes → ((begin t inputs registers (length vs)).unused ≤ w) × (w ≤ length vs)
 
 -- A call was made, and word w was watched for.
-pub record Called (w : ℕ) (t inputs registers vs bs es : Words) (r : Explained) (vs' bs' es' : Words) : Type 0 where
+pub record Called (w : ℕ) (t inputs registers vs bs es : Words) (r : Result (Ending Cause) Refusal) (vs' bs' es' : Words) : Type 0 where
   pub is : explained_of r vs' bs' es'
       ≡ record {
         result = semantics.call t inputs registers vs bs es;

@@ -1,4 +1,5 @@
-// Words of a list that go to another place of it, where the two may overlap.
+// Words of a list that go to another place of it, where the two may overlap. By loops and not by the library's `copy_within`, which calls `memmove`: C links
+// nothing from outside but `memset`.
 #![tactic(auto)]
 
 ghost use Rattle.std.specs.Prelude.{◌≡◌, ◌+◌, ◌≤◌, ◌<◌, length};
@@ -19,9 +20,7 @@ fn move_up(list: &mut [u32], to: usize, from: usize, n: usize)
     requires { (from < to) × (to + n ≤ length list.old) }
     ensures { list.new ≡ moved list.old to from n }
 {
-    let mut i = n;
-    while 0 < i {
-        i -= 1;
+    for i in (0..n).rev() {
         list[to + i] = list[from + i];
     }
 }
@@ -33,7 +32,7 @@ pub fn move_words(list: &mut [u32], to: usize, from: usize, n: usize)
 {
     if to <= from {
         move_down(list, to, from, n);
-        return;
+    } else {
+        move_up(list, to, from, n);
     }
-    move_up(list, to, from, n);
 }

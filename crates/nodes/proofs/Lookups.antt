@@ -1,9 +1,10 @@
 -- Laws of what is looked up: targets, fields, sizes and offsets.
 use Prim.Native.Nat.{ℕ, ◌+◌, ◌*◌, ◌-◌, ◌≤◌, ◌<◌}
-use mathlib.Core.Bool.{true, false}
+use mathlib.Core.Bool.{Bool, true, false}
 use mathlib.Core.Path.{◌≡◌, ap}
 use native.Mathlib.Omega.{arith}
-use borrow.Author.Tests.{lt-ltb, le-ltb, le-leb, lt-leb, ltb-true}
+use borrow.Author.Tests.{ltb-true, lt-ltb, le-ltb}
+use lib.Dec.{leb, ltb}
 use lib.ListN.{length}
 use Rattle.semantics.specs.Words.{Words, word}
 use Rattle.semantics.specs.Table.{entry_words, fields, count_place, count, item_place, item, entry_type, known_type, known_target, target, points_to_type, points_to_record, pointed_record, entry_below, field_total, first_field, field_type}
@@ -13,7 +14,7 @@ use Rattle.layout.specs.Types.{mark_below, RecordIn}
 use Rattle.layout.proofs.Types.{record_in}
 use Rattle.nodes.specs.Nodes.{field_found}
 use Rattle.nodes.specs.Promises.{TargetAt, FieldsAt}
-use Rattle.nodes.specs.declared.Typed.TheVariants.{Is, Refused}
+use Rattle.layout.specs.Refusals.{is, refused}
 
 -- The entries of a section stand in the table.
 pub extent : {t : Words} → TypesPassed t → (s : ℕ) → s < 6 → count_place t s + 1 + word entry_words s * count t s ≤ length t
@@ -41,30 +42,22 @@ module _ {t : Words} {targets ty : ℕ} (h : TargetAt t targets ty) where
   target_found = ap (word t) (omega (arith, h.first))
 
 module _ (t : Words) (ty : ℕ) where
-  pub int_to_type : ty < 2 → points_to_type t ty ≡ false
+  pub int_to_type : leb 2 ty ≡ false → points_to_type t ty ≡ false
   unfolding points_to_type
-  int_to_type h = rw (lt-leb 2 ty h)
+  int_to_type h = rw h
 
-  pub int_to_record : ty < 2 → points_to_record t ty ≡ false
+  pub int_to_record : leb 2 ty ≡ false → points_to_record t ty ≡ false
   unfolding points_to_record
-  int_to_record h = rw (lt-leb 2 ty h)
+  int_to_record h = rw h
 
-  module _ (entry : 2 ≤ ty) where
-    pub to_type : target t ty < 65536 → points_to_type t ty ≡ true
+  module _ (entry : leb 2 ty ≡ true) where
+    pub to_type : (b : Bool) {to : ℕ} → to ≡ target t ty → ltb to 65536 ≡ b → points_to_type t ty ≡ b
     unfolding points_to_type
-    to_type h = rw (le-leb 2 ty entry, lt-ltb (target t ty) 65536 h)
+    to_type b e h = rw (entry, ← e) h
 
-    pub record_no_type : 65536 ≤ target t ty → points_to_type t ty ≡ false
-    unfolding points_to_type
-    record_no_type h = rw (le-leb 2 ty entry, le-ltb (target t ty) 65536 h)
-
-    pub to_record : 65536 ≤ target t ty → points_to_record t ty ≡ true
+    pub to_record : (b : Bool) {to : ℕ} → to ≡ target t ty → leb 65536 to ≡ b → points_to_record t ty ≡ b
     unfolding points_to_record
-    to_record h = rw (le-leb 2 ty entry, le-leb 65536 (target t ty) h)
-
-    pub type_no_record : target t ty < 65536 → points_to_record t ty ≡ false
-    unfolding points_to_record
-    type_no_record h = rw (le-leb 2 ty entry, lt-leb 65536 (target t ty) h)
+    to_record b e h = rw (entry, ← e) h
 
 -- A known type is a known target.
 pub type_target : (t : Words) (x : ℕ) → known_type t x ≡ true → known_target t x ≡ true
@@ -72,9 +65,9 @@ unfolding known_target
 type_target t x k = rw k
 
 -- A known pointer to a record has one of the table's records as its target.
-pub record_less : {t : Words} → TypesPassed t → (ty : ℕ) → known_type t ty ≡ true → 2 ≤ ty → 65536 ≤ target t ty → target t ty - 65536 < count t 0
+pub record_less : {t : Words} → TypesPassed t → (ty : ℕ) → known_type t ty ≡ true → leb 2 ty ≡ true → {to : ℕ} → to ≡ target t ty → leb 65536 to ≡ true → to - 65536 < count t 0
 unfolding pointed_record
-record_less {t} ok ty known entry far = record_known ok ty known (to_record t ty entry far)
+record_less {t} ok ty known entry e far = rw e (record_known ok ty known (to_record t ty entry true e far))
 
 -- The type that is noted for a target that an entry has.
 pub mark_entry : (t : Words) (n x : ℕ) → entry_below t n x < n → mark_below t n x ≡ entry_type (entry_below t n x)
@@ -100,10 +93,10 @@ pub field_type_at : (t : Words) (fields r f at : ℕ) → fields ≡ count_place
 unfolding field_type item item_place
 field_type_at t fields r f at first e = ap (word t) (omega arith)
 
-pub no_field : (t : Words) (r f p : ℕ) → field_total t r ≤ f → Refused 8 p ≡ field_found t r f p
+pub no_field : (t : Words) (r f p : ℕ) → field_total t r ≤ f → refused 8 p ≡ field_found t r f p
 unfolding field_found require
 no_field t r f p h = rw (le-ltb f (field_total t r) h)
 
-pub field_is : (t : Words) (r f p ty : ℕ) → f < field_total t r → ty ≡ field_type t r f → Is ty ≡ field_found t r f p
+pub field_is : (t : Words) (r f p ty : ℕ) → f < field_total t r → ty ≡ field_type t r f → is ty ≡ field_found t r f p
 unfolding field_found require
 field_is t r f p ty h e = rw (lt-ltb f (field_total t r) h, e)

@@ -5,8 +5,8 @@ use mathlib.Core.Path.{◌≡◌, refl, sym, ◌∙◌}
 use native.Mathlib.Omega.{arith}
 use native.Mathlib.Nat.{le_antisymm}
 use native.Mathlib.Decide.{dec_lt, ℕ_discrete}
-use borrow.Author.Tests.{lt-ltb, le-ltb, ltb-true, eqb-true, ne_eqb}
-use lib.Dec.{ltb, eqb}
+use borrow.Author.Tests.{lt-ltb, le-ltb, lt-leb, le-leb, ltb-true, eqb-true, ne_eqb}
+use lib.Dec.{leb, ltb, eqb}
 use lib.ListN.{get_or-eq_default}
 use Rattle.semantics.specs.Words.{Words, word}
 use Rattle.semantics.specs.Table.{edition_1, nodes, item, known_type, variable, read, unknown, kinds, kind_of, Sort, place, value, neither, sort_of, node_kind, types_below, node_type}
@@ -16,7 +16,7 @@ use Rattle.semantics.proofs.Tests.{past}
 use Rattle.semantics.proofs.Trees.{types_at, types_known}
 use Rattle.layout.specs.Notes.{bits, note}
 use Rattle.layout.proofs.Notes.{type_noted, variable_noted, place_noted, place_high}
-use Rattle.nodes.specs.Nodes.{sort_number, read_bit}
+use Rattle.nodes.specs.Nodes.{read_bit}
 use Rattle.nodes.specs.Promises.{NotedTo}
 use Rattle.nodes.proofs.Lookups.{few_pointers}
 
@@ -56,16 +56,6 @@ only_value place h k = absurd (k refl)
 only_value value h k = refl
 only_value neither h k = absurd (true≢false h)
 
-value_wanted : (s : Sort) → eqb (sort_number s) 0 ≡ same_sort s value
-value_wanted place = refl
-value_wanted value = refl
-value_wanted neither = refl
-
-place_wanted : (s : Sort) → eqb (sort_number s) 1024 ≡ same_sort s place
-place_wanted place = refl
-place_wanted value = refl
-place_wanted neither = refl
-
 module _ {t notes : Words} {n : ℕ} (h : NotedTo t notes n) (x : ℕ) (less : x < n) where
   node_passes : node_fault t x ≡ passes
   node_passes = each_passes n (node_fault t) h.nodes_pass x less
@@ -95,14 +85,27 @@ module _ {t notes : Words} {n : ℕ} (h : NotedTo t notes n) (x : ℕ) (less : x
   pub child_same : word notes x % 128 ≡ word (types_below t n) x
   child_same = child_type ∙ sym (types_at t n x less)
 
-  module _ (s : Sort) {wanted : ℕ} (w : wanted ≡ sort_number s) where
-    pub value_test : word notes x < 1024 → eqb wanted 0 ≡ is_child t s n x
-    unfolding is_child
-    value_test l = rw (w, lt-ltb x n less, only_value (sort_of (node_kind t x)) sorted (λ e. absurd (omega (arith, is, place_high edition_1 t x small e)))) (value_wanted s)
+  low_value : word notes x < 1024 → sort_of (node_kind t x) ≡ value
+  low_value l = only_value (sort_of (node_kind t x)) sorted (λ e. absurd (omega (arith, is, place_high edition_1 t x small e)))
 
-    pub place_test : 1024 ≤ word notes x → eqb wanted 1024 ≡ is_child t s n x
-    unfolding is_child
-    place_test l = rw (w, lt-ltb x n less, place_noted edition_1 t x small (rw (← is) l)) (place_wanted s)
+  high_place : 1024 ≤ word notes x → sort_of (node_kind t x) ≡ place
+  high_place l = place_noted edition_1 t x small (rw (← is) l)
+
+  pub value_test : ltb (word notes x) 1024 ≡ is_child t value n x
+  unfolding is_child
+  value_test = go (dec_lt (word notes x) 1024)
+    where
+      go : Dec (word notes x < 1024) → ltb (word notes x) 1024 ≡ is_child t value n x
+      go (yes low) = rw (lt-ltb (word notes x) 1024 low, lt-ltb x n less, low_value low)
+      go (no high) = rw (le-ltb (word notes x) 1024 (omega arith), lt-ltb x n less, high_place (omega arith))
+
+  pub place_test : leb 1024 (word notes x) ≡ is_child t place n x
+  unfolding is_child
+  place_test = go (dec_lt (word notes x) 1024)
+    where
+      go : Dec (word notes x < 1024) → leb 1024 (word notes x) ≡ is_child t place n x
+      go (yes low) = rw (lt-leb 1024 (word notes x) low, lt-ltb x n less, low_value low)
+      go (no high) = rw (le-leb 1024 (word notes x) (omega arith), lt-ltb x n less, high_place (omega arith))
 
   -- The bits of a read of place x.
   pub read_bits : sort_of (node_kind t x) ≡ place → read_bit (word notes x) ≡ bits read (item t nodes x 0)

@@ -1,17 +1,16 @@
 -- What the functions of this crate require and promise.
-use Rattle.std.specs.Prelude.{ℕ, ◌+◌, ◌≤◌, ◌<◌, true, ◌≡◌, [], length, set}
+use Rattle.std.specs.Prelude.{ℕ, ⊤, Result, Ok, Err, ◌+◌, ◌≤◌, ◌<◌, true, ◌≡◌, [], length, set}
 use Rattle.semantics.specs.Words.{Words, word}
 use Rattle.semantics.specs.Table.{edition_1, records, fields, pointers, variables, nodes, count_place, count, item_place, known_type, first_field, children}
 use Rattle.semantics.specs.Check.{Verdict, passes, refused, each, node_fault, occurrences}
 use Rattle.semantics.proofs.Passed.{TypesPassed}
-use Rattle.layout.specs.Layout.{verdict_of, Stands}
+use Rattle.layout.specs.Layout.{Stands}
+use Rattle.layout.specs.Refusals.{number_of, verdict_of}
 use Rattle.layout.specs.Lists.{by_verdict}
 use Rattle.layout.specs.Types.{Tabulated, Marks}
 use Rattle.layout.specs.Notes.{note}
-use Rattle.layout.specs.declared.Section.{Section}
-use Rattle.layout.specs.declared.Verdict as answer
-use Rattle.nodes.specs.declared.Typed.{Typed}
-use Rattle.nodes.specs.declared.Typed.TheVariants.{Is, Refused}
+use Rattle.layout.specs.declared.Table.{Table}
+use Rattle.layout.specs.declared.Refusal.{Refusal}
 
 -- The types in sections 1 to 4 and the nodes before n pass, and the list has the notes of these nodes.
 pub record NotedTo (t notes : Words) (n : ℕ) : Type 0 where
@@ -49,28 +48,28 @@ pub record FieldsAt (t first : Words) (at : ℕ) : Type 0 where
   pub start : at ≡ count_place t fields + 1
 
 -- All that a node's check looks up.
-pub record Lookups (t first entry : Words) (record_total field_at : ℕ) (pointer_section variable_section : Section) : Type 0 where
-  pub record_count : record_total ≡ count t records
-  pub fields_at : FieldsAt t first field_at
-  pub pointers_stand : Stands t pointers pointer_section
-  pub variables_stand : Stands t variables variable_section
+pub record Lookups (t first entry : Words) (l : Table) : Type 0 where
+  pub record_count : l.records.count ≡ count t records
+  pub fields_at : FieldsAt t first l.fields.at
+  pub pointers_stand : Stands t pointers l.pointers
+  pub variables_stand : Stands t variables l.variables
   pub marks : Marks t entry (count t pointers)
 
 -- ---- what a node leaves
 
 -- The verdict of an answer.
-abbrev pub typed_verdict : Typed → Verdict
-typed_verdict (Is ty) = passes
-typed_verdict (Refused n p) = refused n p
+abbrev pub typed_verdict : Result ℕ Refusal → Verdict
+typed_verdict (Ok ty) = passes
+typed_verdict (Err r) = refused (number_of r.fault) r.place
 
 -- An answer's type is so small that there is room for a note.
-pub record Small (x : Typed) : Type 0 where
-  pub type_small : (ty : ℕ) → x ≡ Is ty → ty < 128
+pub record Small (x : Result ℕ Refusal) : Type 0 where
+  pub type_small : (ty : ℕ) → x ≡ Ok ty → ty < 128
 
 -- The list with the note of node n, which has these bits, where the answer is a type; else as it was.
-abbrev pub note_added : Typed → ℕ → ℕ → Words → Words
-note_added (Is ty) mark n notes = set notes n (ty + mark)
-note_added (Refused r p) mark n notes = notes
+abbrev pub note_added : Result ℕ Refusal → ℕ → ℕ → Words → Words
+note_added (Ok ty) mark n notes = set notes n (ty + mark)
+note_added (Err r) mark n notes = notes
 
 -- Each count rises by the occurrences in the list.
 pub record Counted (used used' l : Words) : Type 0 where
@@ -97,13 +96,13 @@ pub record Room (notes used : Words) : Type 0 where
 
 -- The answer x to a node whose note has these bits is told. Where it is a type, the node's note is added and its uses of the children l are
 -- counted; where it is a refusal, no word has changed.
-pub record Told (x : Typed) (mark n : ℕ) (l : Words) (r : answer.Verdict) (notes notes' used used' : Words) : Type 0 where
+pub record Told (x : Result ℕ Refusal) (mark n : ℕ) (l : Words) (r : Result ⊤ Refusal) (notes notes' used used' : Words) : Type 0 where
   pub verdict : verdict_of r ≡ typed_verdict x
   pub noted : notes' ≡ note_added x mark n notes
   pub counted : Counted used used' (by_verdict (typed_verdict x) l [])
 
 -- The whole check of node n: where it passes, its note is added and its uses of children are counted; where it doesn't, no word has changed.
-pub record Noted (t : Words) (n : ℕ) (r : answer.Verdict) (notes notes' used used' : Words) : Type 0 where
+pub record Noted (t : Words) (n : ℕ) (r : Result ⊤ Refusal) (notes notes' used used' : Words) : Type 0 where
   pub verdict : verdict_of r ≡ node_fault t n
   pub noted : notes' ≡ by_verdict (node_fault t n) (set notes n (note edition_1 t n)) notes
   pub counted : Counted used used' (by_verdict (node_fault t n) (children t n) [])

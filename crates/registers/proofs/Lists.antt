@@ -1,23 +1,30 @@
 -- Refusals 13, 14 and 15, from what the loops over a register list have found.
 use Prim.Native.Nat.{ℕ, ◌+◌, ◌≤◌, ◌<◌}
-use mathlib.Core.Bool.{Bool, true, false, ◌&&◌, ◌||◌}
+use mathlib.Core.Bool.{Bool, true, false, not, ◌&&◌, ◌||◌}
 use mathlib.Core.Path.{◌≡◌, refl, sym, ap, ◌∙◌}
 use native.Mathlib.Omega.{arith}
 use native.Mathlib.Decide.{ℕ_discrete}
 use native.Mathlib.Numerals.{add-one}
 use borrow.Author.Tests.{ltb-true, eq-eqb, ne_eqb, le-leb, lt-leb, lt-ltb, le-ltb}
 use lib.Dec.{leb, ltb, eqb}
-use lib.ListN.{length, set, replicate, length-set, get_or-replicate, get_or-eq_default}
+use lib.ListN.{length, get_or, set, replicate, length-set, get_or-replicate, get_or-eq_default}
 use lib.Seq.{get_or-set_same, get_or-set_other}
 use Rattle.semantics.specs.Words.{Words, word, sum_below, any_below, seen_before}
 use Rattle.semantics.specs.Table.{variables, count, item, is_pointer}
 use Rattle.semantics.specs.Registers.{register_count, register_place, register_variable, register_length, register_start}
-use Rattle.semantics.specs.Check.{passes, refused, require, each, extent_fault, names_pointer, name_fault, room_fault, registers_fault}
+use Rattle.semantics.specs.Check.{Verdict, passes, refused, require, each, extent_fault, names_pointer, name_fault, room_fault, registers_fault}
 use Rattle.semantics.proofs.Tests.{and_true}
 use Rattle.semantics.proofs.Registers.{Whole, places_rise}
+use Rattle.registers.specs.Walk.{RegisterAt}
+use Rattle.registers.specs.declared.Register.{Register}
+use mathlib.Core.List.{List}
 use Rattle.layout.specs.Layout.{Stands}
 use Rattle.layout.specs.declared.Section.{Section}
 use Rattle.layout.proofs.Laws.{require_holds, require_refuses, or_else_pass, or_else_refuse, item_at, sum_more}
+
+-- What is refused where a requirement is not met.
+pub unmet_as : (ok : Bool) (f p : ℕ) {m q : ℕ} {v : Verdict} → refused m q ≡ require ok f p → ok ≡ false → refused f p ≡ v → refused m q ≡ v
+unmet_as ok f p e z h = e ∙ require_refuses ok f p z ∙ h
 
 -- ---- places
 
@@ -37,6 +44,10 @@ pub whole_length : {l : Words} → Whole l → 0 < length l
 unfolding register_place
 whole_length {l} h = omega (arith, places_rise l 0 (register_count l) (omega arith), h.exact)
 
+-- A register of a list that the walk has is one of the list itself.
+pub of_list : {l l' : Words} {i : ℕ} {r : Register} → RegisterAt l' i r → l' ≡ l → RegisterAt l i r
+of_list h e = rw e at h
+
 -- ---- 13
 
 module _ (l : Words) where
@@ -55,21 +66,12 @@ module _ (l : Words) where
         let end : length l < register_place l (register_count l) = omega (arith, places_rise l i (register_count l) h) in
         sym (or_else_pass _ _ counted ∙ or_else_refuse _ _ (require_refuses _ 13 (length l) (lt-leb (register_place l (register_count l)) (length l) end)))
 
-    module _ {p : ℕ} (e : p ≡ register_place l (register_count l)) (h : p ≤ length l) where
-      not_cut : require (leb (register_place l (register_count l)) (length l)) 13 (length l) ≡ passes
-      not_cut = require_holds _ 13 (length l) (le-leb (register_place l (register_count l)) (length l) (omega arith))
-
-      pub words_over : p < length l → refused 13 p ≡ extent_fault l
-      unfolding extent_fault
-      words_over less =
-          sym (or_else_pass _ _ counted ∙ or_else_pass _ _ not_cut
-          ∙ require_refuses _ 13 (register_place l (register_count l)) (lt-leb (length l) (register_place l (register_count l)) (omega arith)) ∙ ap (refused 13) (sym e))
-
-      pub extent_passes : length l ≤ p → passes ≡ extent_fault l
-      unfolding extent_fault
-      extent_passes all =
-          sym (or_else_pass _ _ counted ∙ or_else_pass _ _ not_cut
-          ∙ require_holds _ 13 (register_place l (register_count l)) (le-leb (length l) (register_place l (register_count l)) (omega arith)))
+    -- All registers stand in the list, so what is left to require is that no words follow.
+    pub extent_by : {p : ℕ} → p ≡ register_place l (register_count l) → p ≤ length l → require (leb (length l) p) 13 p ≡ extent_fault l
+    unfolding extent_fault
+    extent_by e h =
+        rw e
+        (sym (or_else_pass _ _ counted ∙ or_else_pass _ _ (require_holds _ 13 (length l) (le-leb (register_place l (register_count l)) (length l) (omega arith)))))
 
 pub empty_list : (l : Words) → length l ≡ 0 → refused 13 0 ≡ extent_fault l
 empty_list l e =
@@ -80,6 +82,14 @@ empty_list l e =
 and_false : (a : Bool) → a && false ≡ false
 and_false true = refl
 and_false false = refl
+
+not_is : (a b : Bool) → not a ≡ b → a ≡ not b
+not_is true b e = rw (← e)
+not_is false b e = rw (← e)
+
+or_false : (a : Bool) → a || false ≡ a
+or_false true = refl
+or_false false = refl
 
 or_right : (a : Bool) → a || true ≡ true
 or_right true = refl
@@ -93,31 +103,26 @@ names_more : (l : Words) (i v : ℕ) → names l (i + 1) v ≡ names l i v || eq
 unfolding any_below
 names_more l i v = rw (add-one i) refl
 
--- A list of marks, 0 for each variable that no register below i names.
-pub record Marked (l marks : Words) (i : ℕ) : Type 0 where
+-- A mark for each variable: whether a register below i names it.
+pub record Marked (l : Words) (marks : List Bool) (i : ℕ) : Type 0 where
   pub room : length marks ≡ 64
-  pub free : (v : ℕ) → v < 64 → word marks v ≡ 0 → names l i v ≡ false
-  pub taken : (v : ℕ) → v < 64 → (word marks v ≡ 0 → ⊥) → names l i v ≡ true
+  pub named : (v : ℕ) → v < 64 → names l i v ≡ get_or marks v false
 
-pub none_marked : (l : Words) → Marked l (replicate 64 0) 0
+pub none_marked : (l : Words) → Marked l (replicate 64 false) 0
 unfolding any_below
-none_marked l = record { room = refl; free = λ v h e. refl; taken = λ v h e. absurd (e (get_or-replicate 64 v 0 0 h)) }
+none_marked l = record { room = refl; named = λ v h. sym (get_or-replicate 64 v false false h) }
 
-pub one_marked : {l marks : Words} {i w : ℕ} → Marked l marks i → w ≡ register_variable l i → w < 64 → word marks w ≡ 0 → Marked l (set marks w 1) (i + 1)
-one_marked {l} {marks} {i} {w} h here known unmarked =
-    record { room = length-set marks w 1 ∙ h.room; free = λ v less e. free v less e (ℕ_discrete v w); taken = λ v less e. taken v less e (ℕ_discrete v w) }
+pub one_marked : {l : Words} {marks : List Bool} {i w : ℕ} → Marked l marks i → w ≡ register_variable l i → w < 64 → Marked l (set marks w true) (i + 1)
+one_marked {l} {marks} {i} {w} h here known =
+    record { room = length-set marks w true ∙ h.room; named = λ v less. named v less (ℕ_discrete v w) }
   where
-    marked : word (set marks w 1) w ≡ 1
-    marked = get_or-set_same marks w 1 0 (omega (arith, h.room))
-
-    free : (v : ℕ) → v < 64 → word (set marks w 1) v ≡ 0 → Dec (v ≡ w) → names l (i + 1) v ≡ false
-    free v less e (yes q) = absurd (omega (arith, rw q at e, marked))
-    free v less e (no q) =
-        rw (names_more l i v, h.free v less (sym (get_or-set_other marks w v 1 0 q) ∙ e), ne_eqb (register_variable l i) v (λ z. q (sym z ∙ sym here))) refl
-
-    taken : (v : ℕ) → v < 64 → (word (set marks w 1) v ≡ 0 → ⊥) → Dec (v ≡ w) → names l (i + 1) v ≡ true
-    taken v less e (yes q) = rw (names_more l i v, eq-eqb (register_variable l i) v (sym here ∙ sym q)) (or_right (names l i v))
-    taken v less e (no q) = rw (names_more l i v, h.taken v less (λ z. e (get_or-set_other marks w v 1 0 q ∙ z))) refl
+    named : (v : ℕ) → v < 64 → Dec (v ≡ w) → names l (i + 1) v ≡ get_or (set marks w true) v false
+    named v less (yes q) =
+        names_more l i v ∙ ap (names l i v ||◌) (eq-eqb (register_variable l i) v (sym here ∙ sym q)) ∙ or_right (names l i v)
+        ∙ sym (rw q (get_or-set_same marks w true false (omega (arith, h.room))))
+    named v less (no q) =
+        names_more l i v ∙ ap (names l i v ||◌) (ne_eqb (register_variable l i) v (λ z. q (sym z ∙ sym here))) ∙ or_false (names l i v) ∙ h.named v less
+        ∙ sym (get_or-set_other marks w v true false q)
 
 -- A variable that is known.
 module _ {t : Words} {s : Section} (h : Stands t 3 s) (v : ℕ) where
@@ -140,14 +145,14 @@ module _ (t l : Words) (i : ℕ) {p v : ℕ} (at : p ≡ register_place l i) (is
   unfolding name_fault
   no_pointer e = rw (← at, ← is, ← ea, e) (require_refuses _ 14 p refl)
 
-  module _ {marks : Words} (m : Marked l marks i) (known : v < 64) where
-    pub named_again : (word marks v ≡ 0 → ⊥) → name_fault t l i ≡ refused 14 p
+  module _ {marks : List Bool} (m : Marked l marks i) (known : v < 64) where
+    pub named_again : not (get_or marks v false) ≡ false → name_fault t l i ≡ refused 14 p
     unfolding name_fault seen_before
-    named_again e = rw (← at, ← is, m.taken v known e) (require_refuses _ 14 p (and_false (names_pointer t v)))
+    named_again e = rw (← at, ← is, m.named v known, not_is (get_or marks v false) false e) (require_refuses _ 14 p (and_false (names_pointer t v)))
 
-    pub name_passes : a ≡ true → word marks v ≡ 0 → name_fault t l i ≡ passes
+    pub name_passes : a ≡ true → not (get_or marks v false) ≡ true → name_fault t l i ≡ passes
     unfolding name_fault seen_before
-    name_passes e free = rw (← at, ← is, ← ea, e, m.free v known free) (require_holds _ 14 p refl)
+    name_passes e free = rw (← at, ← is, ← ea, e, m.named v known, not_is (get_or marks v false) true free) (require_holds _ 14 p refl)
 
 -- ---- 15
 
@@ -160,13 +165,10 @@ unfolding register_start
 start_more first l i at e = omega (arith, sum_more (λ j. register_length l j) i, ap (λ q. word l (q + 1)) at)
 
 module _ (first : ℕ) (l : Words) (memory i : ℕ) {p end : ℕ} (at : p ≡ register_place l i) (e : end ≡ register_start first l (i + 1)) where
-  pub room_refused : memory < end → room_fault first l memory i ≡ refused 15 (p + 1)
+  -- What is required of a register's room is its part of the definition.
+  pub room_by : require (leb end memory) 15 (p + 1) ≡ room_fault first l memory i
   unfolding room_fault
-  room_refused h = rw (← at, ← add-one i, ← e) (require_refuses _ 15 (p + 1) (lt-leb end memory h))
-
-  pub room_passes : end ≤ memory → room_fault first l memory i ≡ passes
-  unfolding room_fault
-  room_passes h = rw (← at, ← add-one i, ← e) (require_holds _ 15 (p + 1) (le-leb end memory h))
+  room_by = rw (← at, ← add-one i, ← e)
 
 -- ---- the three in their order
 

@@ -1,17 +1,74 @@
 // The registers that a call hands in: the check of their list, and the memory that they are at the start of a run.
 #![tactic(auto)]
 
-ghost use Rattle.std.specs.Prelude.{◌+◌, ◌≤◌, ◌<◌, ◌^◌, ◌≡◌, length};
+ghost use Rattle.std.specs.Prelude.{◌+◌, ◌-◌, ◌≤◌, ◌<◌, ◌^◌, ◌≡◌, length};
+ghost use Rattle.std.specs.Iterator.{at_most};
 ghost use Rattle.semantics.specs.Words.{word};
 ghost use Rattle.semantics.specs.Table.{count};
-ghost use Rattle.semantics.specs.Registers.{register_count};
+ghost use Rattle.semantics.specs.Registers.{register_count, register_place};
 ghost use Rattle.semantics.specs.Check.{each, extent_fault, names_pointer, name_fault, room_fault, registers_fault};
 ghost use Rattle.semantics.proofs.Registers.{Whole};
-ghost use Rattle.layout.specs.Layout.{verdict_of, Stands};
+ghost use Rattle.layout.specs.Layout.{Stands};
+ghost use Rattle.layout.specs.Refusals.{verdict_of};
+ghost use Rattle.registers.specs.Walk.{next_register};
 ghost use Rattle.registers.specs.Blocks.{RegisterSet, RegistersSet, Fits, AllFit, RegisterOf, RegisterPlaced, RegistersPlaced, Placeable, AllPlaceable};
 
-use layout::{Section, Table, Verdict};
-use words::{index, narrow, store_all};
+use layout::{Fault, Refusal, Section, Table, require};
+use words::store_all;
+
+// A register of a list: where it stands, the variable that it is handed to, and how many words it has.
+#[derive(Clone, Copy)]
+struct Register {
+    place: usize,
+    variable: u32,
+    length: u32,
+}
+
+// The registers of a whole list in turn: `index` of them have come, and the next one stands at place `at`.
+#[derive(Drop)]
+struct Registers<'a> {
+    list: &'a [u32],
+    index: u32,
+    at: usize,
+    ghost stands: { Whole list.now × (index ≤ register_count list.now) × (at ≡ register_place list.now index) },
+}
+
+impl<'a> Registers<'a> {
+    fn of(list: &'a [u32]) -> Registers<'a>
+        requires { Whole list.now }
+        ensures { (result.list.now ≡ list.now) × (result.index ≡ 0) }
+    {
+        Registers {
+            list,
+            index: 0,
+            at: 1,
+        }
+    }
+}
+
+impl<'a> Iterator for Registers<'a> {
+    type Item = Register;
+
+    ghost next_gives = { λ s r t. next_register s.list.now s.index r t.list.now t.index };
+
+    ghost remaining = { λ s. at_most (register_count s.list.now - s.index) };
+
+    fn next(&mut self) -> Option<Register> {
+        if self.index == self.list[0] {
+            return None;
+        }
+        let place = self.at;
+        let variable = self.list[place];
+        let length = self.list[place + 1];
+        self.index += 1;
+        self.at = place + 2 + length as usize;
+        Some(Register {
+            place,
+            variable,
+            length,
+        })
+    }
+}
 
 // The most registers of a list.
 const MOST: u32 = 16;
@@ -21,36 +78,25 @@ fn register_end(list: &[u32], p: usize) -> usize
     requires { p ≤ length list.now }
     ensures { result ≡ p + 2 + word list.now (p + 1) }
 {
-    let at = p + 1;
-    if list.len() <= at {
-        return p + 2;
-    }
-    p + 2 + index(list[at])
+    let length = list.get(p + 1).copied().unwrap_or(0);
+    p + 2 + length as usize
 }
 
-// 13 for a list of more than 16 registers, one that is cut short or one with words over.
-fn check_extent(list: &[u32]) -> Verdict
+// Refuses a list of more than 16 registers, one that is cut short and one with words over.
+fn check_extent(list: &[u32]) -> Result<(), Refusal>
     ensures { verdict_of result ≡ extent_fault list.now }
 {
     let n = list.len();
-    if n == 0 {
-        return Verdict::Refused(13, 0);
-    }
+    require(0 < n, Fault::RegisterList, 0)?;
     let count = list[0];
-    if MOST < count {
-        return Verdict::Refused(13, 0);
-    }
+    require(count <= MOST, Fault::RegisterList, 0)?;
+    // By place, not as a walk over `Registers`: the list may be cut short.
     let mut p = 1;
     for i in 0..count {
         p = register_end(list, p);
-        if n < p {
-            return Verdict::Refused(13, n);
-        }
+        require(p <= n, Fault::RegisterList, n)?;
     }
-    if p < n {
-        return Verdict::Refused(13, p);
-    }
-    Verdict::Passes
+    require(n <= p, Fault::RegisterList, p)
 }
 
 // Variable v is known and a pointer.
@@ -58,68 +104,53 @@ fn names_pointer(t: &[u32], variables: Section, v: u32) -> bool
     requires { Stands t.now 3 variables }
     ensures { result ≡ names_pointer t.now v }
 {
-    let i = index(v);
-    if variables.count <= i {
-        return false;
-    }
-    let at = variables.at + i;
-    1 <= t[at]
+    let i = v as usize;
+    i < variables.count && 1 <= t[variables.at + i]
 }
 
-// 14 for the first register whose variable is unknown, no pointer or named before.
-fn check_names(t: &[u32], variables: Section, list: &[u32]) -> Verdict
+// Refuses the first register whose variable is unknown, no pointer or named before.
+fn check_names(t: &[u32], variables: Section, list: &[u32]) -> Result<(), Refusal>
     requires { (Stands t.now 3 variables) × (Whole list.now) }
     ensures { verdict_of result ≡ each (register_count list.now) (name_fault t.now list.now) }
 {
-    let count = list[0];
-    // 1 for each variable that an earlier register names.
-    let mut named = [0u8; Table::VARIABLES];
-    let mut p = 1;
-    for i in 0..count {
-        let v = list[p];
-        if !names_pointer(t, variables, v) {
-            return Verdict::Refused(14, p);
-        }
-        let k = index(v);
-        if named[k] != 0 {
-            return Verdict::Refused(14, p);
-        }
-        named[k] = 1;
-        p = register_end(list, p);
+    // Whether an earlier register names a variable.
+    let mut named = [false; Table::VARIABLES];
+    for register in Registers::of(list) {
+        let v = register.variable;
+        let known = names_pointer(t, variables, v);
+        require(known, Fault::RegisterVariable, register.place)?;
+        let k = v as usize;
+        require(!named[k], Fault::RegisterVariable, register.place)?;
+        named[k] = true;
     }
-    Verdict::Passes
+    Ok(())
 }
 
-// 15 for the first register that does not fit in `memory` words, if the first one begins at word `first`.
-fn check_room(list: &[u32], first: usize, memory: usize) -> Verdict
+// Refuses the first register that does not fit in `memory` words, if the first one begins at word `first`.
+fn check_room(list: &[u32], first: usize, memory: usize) -> Result<(), Refusal>
     requires { (Whole list.now) × (first ≤ memory) × (memory ≤ 65536) }
     ensures { verdict_of result ≡ each (register_count list.now) (room_fault first list.now memory) }
 {
-    let count = list[0];
-    let mut p = 1;
     let mut end = first;
-    for i in 0..count {
-        let at = p + 1;
-        end += index(list[at]);
-        if memory < end {
-            return Verdict::Refused(15, at);
-        }
-        p = register_end(list, p);
+    for register in Registers::of(list) {
+        end += register.length as usize;
+        require(end <= memory, Fault::RegisterRoom, register.place + 1)?;
     }
-    Verdict::Passes
+    Ok(())
 }
 
-// 13 over the whole list, then 14 over all registers, then 15, for a table with these variables and lists of `memory` words.
-pub fn check_registers(t: &[u32], variables: Section, list: &[u32], memory: usize) -> Verdict
+// The whole list, then the variables of all registers, then their room, for a table with these variables and lists of `memory` words.
+pub fn check_registers(
+    t: &[u32],
+    variables: Section,
+    list: &[u32],
+    memory: usize,
+) -> Result<(), Refusal>
     requires { (Stands t.now 3 variables) × (count t.now 3 + 1 ≤ memory) × (memory ≤ 65536) }
     ensures { verdict_of result ≡ registers_fault t.now list.now memory }
 {
-    if let Verdict::Refused(n, p) = check_extent(list) {
-        return Verdict::Refused(n, p);
-    }
-    if let Verdict::Refused(n, p) = check_names(t, variables, list) {
-        return Verdict::Refused(n, p);
-    }
+    check_extent(list)?;
+    check_names(t, variables, list)?;
     check_room(list, variables.count + 1, memory)
 }
 
@@ -135,7 +166,7 @@ fn set_register(
     requires { Fits list.now p at values.old bases.old ends.old }
     ensures { RegisterSet list.now p values.old bases.old ends.old at values.new bases.new ends.new result }
 {
-    let word = 1 + index(list[p]);
+    let word = 1 + list[p] as usize;
     let n = list[p + 1];
     if n == 0 {
         values[word] = 0;
@@ -144,8 +175,8 @@ fn set_register(
         return at;
     }
     let from = p + 2;
-    let to = from + index(n);
-    store_all(values, index(at), &list[from..to]);
+    let to = from + n as usize;
+    store_all(values, at as usize, &list[from..to]);
     values[word] = at;
     bases[word] = at;
     ends[word] = at + n;
@@ -163,30 +194,28 @@ pub fn set_registers(
     requires { AllFit list.now first values.old bases.old ends.old }
     ensures { RegistersSet list.now (register_count list.now) values.old bases.old ends.old first values.new bases.new ends.new result }
 {
-    let count = list[0];
-    let mut p = 1;
     let mut at = first;
-    for i in 0..count {
-        at = set_register(list, p, at, values, bases, ends);
-        p = register_end(list, p);
+    for register in Registers::of(list) {
+        at = set_register(list, register.place, at, values, bases, ends);
     }
     at
 }
 
 // The register at place p becomes a block at word `start` of a memory without bounds, and its variable points to it. Answers the first word after it.
+// Apart from `set_register`: there is nothing to say of bases and ends here, and no word has to be clear beforehand.
 fn place_register(list: &[u32], p: usize, start: u32, values: &mut [u32]) -> u32
     requires { Placeable list.now p start values.old }
     ensures { RegisterPlaced list.now p values.old start values.new result }
 {
-    let word = 1 + index(list[p]);
+    let word = 1 + list[p] as usize;
     let n = list[p + 1];
     if n == 0 {
         values[word] = 0;
         return start;
     }
     let from = p + 2;
-    let to = from + index(n);
-    store_all(values, index(start), &list[from..to]);
+    let to = from + n as usize;
+    store_all(values, start as usize, &list[from..to]);
     values[word] = start;
     start + n
 }
@@ -196,12 +225,9 @@ pub fn place_registers(list: &[u32], first: u32, values: &mut [u32]) -> u32
     requires { AllPlaceable list.now first values.old }
     ensures { RegistersPlaced list.now (register_count list.now) values.old first values.new result }
 {
-    let count = list[0];
-    let mut p = 1;
     let mut at = first;
-    for i in 0..count {
-        at = place_register(list, p, at, values);
-        p = register_end(list, p);
+    for register in Registers::of(list) {
+        at = place_register(list, register.place, at, values);
     }
     at
 }
@@ -211,16 +237,13 @@ pub fn start_of(list: &[u32], first: usize, w: usize) -> u32
     requires { (Whole list.now) × (first ≤ w) × (w < 2 ^ 32) }
     ensures { RegisterOf list.now first w result }
 {
-    let count = list[0];
-    let mut p = 1;
     let mut at = first;
-    for i in 0..count {
-        let end = at + index(list[p + 1]);
+    for register in Registers::of(list) {
+        let end = at + register.length as usize;
         if w < end {
-            return narrow(at);
+            return at as u32;
         }
         at = end;
-        p = register_end(list, p);
     }
     0
 }

@@ -3,374 +3,188 @@
 // ending and the words up to the last that is not 0. A line that is no case is answered by `case`.
 #![tactic(auto)]
 
-ghost use Rattle.std.specs.Prelude.{◌≤◌, length};
-ghost use Rattle.cases.specs.Cases.{Within};
+use cases::{Case, Program, front};
+use commands::Ending;
+use layout::Refusal;
+use machine::{BareAnswer, Cause, Explained};
+use steps::Memory;
+use stream::{make_room, put_after};
+use text::Output;
 
-use cases::{Case, Line};
-use layout::Verdict;
-use machine::{Answer, BareAnswer, Cause, Explained};
-use stream::{Part, least, make_room, put_after};
-use text::put_bytes;
-use words::{index, long};
-
-fn fill(list: &mut [u32]) {
-    let n = list.len();
-    for i in 0..n {
-        list[i] = 7;
-    }
-}
+// What stands in each word that a case lends.
+const FILL: u32 = 7;
 
 fn is_changed(list: &[u32]) -> bool {
-    for i in 0..list.len() {
-        if list[i] != 7 {
-            return true;
-        }
-    }
-    false
+    list.iter().any(|word| *word != FILL)
 }
 
-// A value, after a space.
-fn put_value(out: &mut [u8], at: usize, value: u32) -> usize {
-    put_after(out, at, b" ", long(value))
-}
-
-// A word of memory as `value:base:end`.
-fn put_word(out: &mut [u8], at: usize, value: u32, base: u32, end: u32) -> usize {
-    let at = put_value(out, at, value);
-    let at = put_after(out, at, b":", long(base));
-    put_after(out, at, b":", long(end))
+// A word of memory as `value:base:end`, after a space.
+fn put_word(out: &mut Output, value: u32, base: u32, end: u32) {
+    put_after(out, b" ", value as u64);
+    put_after(out, b":", base as u64);
+    put_after(out, b":", end as u64);
 }
 
 // Words 1 to `unused` - 1.
-fn put_words(
-    rt: HostRuntime,
-    out: &mut [u8],
-    at: usize,
-    unused: usize,
-    values: &[u32],
-    bases: &[u32],
-    ends: &[u32],
-) -> usize
-    requires { (unused ≤ length values.now) × (unused ≤ length bases.now) × (unused ≤ length ends.now) }
-{
-    let mut at = at;
-    for i in 1..unused {
-        at = make_room(rt, out, at);
-        at = put_word(out, at, values[i], bases[i], ends[i]);
+fn put_words(rt: HostRuntime, out: &mut Output, unused: usize, memory: &Memory) {
+    let words = memory
+        .values
+        .iter()
+        .zip(memory.bases.iter())
+        .zip(memory.ends.iter());
+    for ((value, base), end) in words.take(unused).skip(1) {
+        make_room(rt, out);
+        put_word(out, *value, *base, *end);
     }
-    at
 }
 
 // How a run ended, then the memory of a begun run, or whether a refused one has changed a word.
-fn put_run(
-    rt: HostRuntime,
-    out: &mut [u8],
-    at: usize,
-    a: Answer,
-    values: &[u32],
-    bases: &[u32],
-    ends: &[u32],
-) -> usize {
-    let at = lines::put_ending(out, at, a);
-    if let Answer::Refused(_, _) = a {
-        if is_changed(values) || is_changed(bases) || is_changed(ends) {
-            return put_bytes(out, at, b" changed");
+fn put_run<C>(rt: HostRuntime, out: &mut Output, a: &Result<Ending<C>, Refusal>, memory: &Memory) {
+    lines::put_ending(out, a);
+    if a.is_err() {
+        if is_changed(memory.values) || is_changed(memory.bases) || is_changed(memory.ends) {
+            out.put_bytes(b" changed");
         }
-        return at;
+        return;
     }
-    // U is never above the lists' length, so nothing is cut off: `least` stands for the proof of that.
-    let length = least(values.len(), least(bases.len(), ends.len()));
-    let unused = least(lines::unused_after(a), length);
+    let unused = lines::unused_after(a);
     if unused < 2 {
-        return put_bytes(out, at, b" ; -");
+        return out.put_bytes(b" ; -");
     }
-    let at = put_bytes(out, at, b" ;");
-    put_words(rt, out, at, unused, values, bases, ends)
+    out.put_bytes(b" ;");
+    put_words(rt, out, unused, memory);
 }
 
 // The check that was not passed.
-fn put_check(rt: HostRuntime, out: &mut [u8], at: usize, x: Cause) -> usize {
-    let at = make_room(rt, out, at);
-    let at = put_after(out, at, b" ; ", long(x.node));
-    let at = put_after(out, at, b" ", x.place);
-    let at = put_after(out, at, b" ", long(x.words));
-    let at = put_after(out, at, b" ", long(x.base));
-    put_after(out, at, b" ", long(x.end))
+fn put_check(rt: HostRuntime, out: &mut Output, x: Cause) {
+    make_room(rt, out);
+    put_after(out, b" ; ", x.node as u64);
+    put_after(out, b" ", x.place);
+    put_after(out, b" ", x.words as u64);
+    put_after(out, b" ", x.base as u64);
+    put_after(out, b" ", x.end as u64);
 }
 
 // An explanation: the check, the reason, and the first word of what the bounds lie in.
-fn put_cause(rt: HostRuntime, out: &mut [u8], at: usize, x: Cause) -> usize {
-    let at = put_check(rt, out, at, x);
-    let at = make_room(rt, out, at);
-    let at = put_after(out, at, b" ", long(x.reason));
-    put_after(out, at, b" ", long(x.first))
+fn put_cause(rt: HostRuntime, out: &mut Output, x: Cause) {
+    put_check(rt, out, x);
+    make_room(rt, out);
+    put_after(out, b" ", x.reason as u64);
+    put_after(out, b" ", x.first as u64);
 }
 
 // The answer of a run, and its explanation if it was begun.
-fn put_explained(
-    rt: HostRuntime,
-    out: &mut [u8],
-    at: usize,
-    e: Explained,
-    values: &[u32],
-    bases: &[u32],
-    ends: &[u32],
-) -> usize {
+fn put_explained(rt: HostRuntime, out: &mut Output, e: Explained, memory: &Memory) {
+    put_run(rt, out, &e, memory);
     match e {
-        Explained::Refused(number, place) => put_run(
-            rt,
-            out,
-            at,
-            Answer::Refused(number, place),
-            values,
-            bases,
-            ends,
-        ),
-        Explained::Done(unused) => {
-            let at = put_run(rt, out, at, Answer::Done(unused), values, bases, ends);
-            put_bytes(out, at, b" ; none")
-        }
-        Explained::Abort(command, unused, x) => {
-            let at = put_run(
-                rt,
-                out,
-                at,
-                Answer::Abort(command, unused),
-                values,
-                bases,
-                ends,
-            );
-            put_cause(rt, out, at, x)
-        }
-        Explained::NoRoom(command, unused) => {
-            let at = put_run(
-                rt,
-                out,
-                at,
-                Answer::NoRoom(command, unused),
-                values,
-                bases,
-                ends,
-            );
-            put_bytes(out, at, b" ; none")
-        }
+        Err(_) => {}
+        Ok(Ending::Abort(_, _, x)) => put_cause(rt, out, x),
+        Ok(_) => out.put_bytes(b" ; none"),
     }
 }
 
-// The words of a list after word 0, up to `end`.
-fn put_values(rt: HostRuntime, out: &mut [u8], at: usize, end: usize, values: &[u32]) -> usize
-    requires { end ≤ length values.now }
-{
-    let mut at = at;
-    for i in 1..end {
-        at = make_room(rt, out, at);
-        at = put_value(out, at, values[i]);
+// Some words of a list.
+fn put_values(rt: HostRuntime, out: &mut Output, values: &[u32]) {
+    for value in values {
+        make_room(rt, out);
+        put_after(out, b" ", *value as u64);
     }
-    at
 }
 
-// The place after the last word that is not 0, or 1.
-fn used(values: &[u32]) -> usize {
-    let n = values.len();
-    let mut end = 1;
-    for i in 1..n {
-        if values[i] != 0 {
-            end = i + 1;
-        }
-    }
-    end
-}
-
-// How a bare run ended, then the values that it left, or whether a refused one has changed a word.
-fn put_bare(rt: HostRuntime, out: &mut [u8], at: usize, a: BareAnswer, values: &[u32]) -> usize {
-    let at = lines::put_bare_ending(out, at, a);
-    if let BareAnswer::Refused(_, _) = a {
+// How a bare run ended, then the values that it left, from word 1 up to the last that is not 0; or whether a refused one has changed a word.
+fn put_bare(rt: HostRuntime, out: &mut Output, a: BareAnswer, values: &[u32]) {
+    lines::put_bare_ending(out, a);
+    if a.is_err() {
         if is_changed(values) {
-            return put_bytes(out, at, b" changed");
+            out.put_bytes(b" changed");
         }
-        return at;
+        return;
     }
-    // No word stands past the list's end, so nothing is cut off: `least` stands for the proof of that.
-    let end = least(used(values), values.len());
-    if end < 2 {
-        return put_bytes(out, at, b" ; -");
+    match values.iter().rposition(|word| *word != 0) {
+        Some(last) if 1 <= last => {
+            out.put_bytes(b" ;");
+            put_values(rt, out, &values[1..=last]);
+        }
+        _ => out.put_bytes(b" ; -"),
     }
-    let at = put_bytes(out, at, b" ;");
-    put_values(rt, out, at, end, values)
 }
 
-// Runs a table without bounds, in a list that it fills first.
-fn run_bare_filled(
-    rt: HostRuntime,
-    t: &[u32],
-    inputs: &[u32],
-    registers: &[u32],
-    values: &mut [u32],
-    out: &mut [u8],
-    at: usize,
-) -> usize {
-    fill(values);
-    let a = machine::run_bare(t, inputs, registers, values);
-    put_bare(rt, out, at, a, values)
-}
-
-fn run_bare_case(
-    rt: HostRuntime,
-    numbers: &[u32],
-    list: usize,
-    from: usize,
-    values: &mut [u32],
-    out: &mut [u8],
-    at: usize,
-) -> usize
-    requires { Within numbers.now list from }
+// Takes a step in the words that a case lends, filled.
+fn in_lent<Step: FnOnce(&mut Memory)>(program: Program, memory: &mut Memory, step: Step)
+    requires { Step.IsAlwaysCallable step }
 {
-    let v = least(index(numbers[2]), values.len());
-    let inputs_end = list - 1;
-    let list_end = from - 1;
-    run_bare_filled(
-        rt,
-        &numbers[from..],
-        &numbers[7..inputs_end],
-        &numbers[list..list_end],
-        &mut values[0..v],
-        out,
-        at,
-    )
+    let mut lent = Memory {
+        values: front(memory.values, program.values),
+        bases: front(memory.bases, program.bases),
+        ends: front(memory.ends, program.ends),
+    };
+    lent.values.fill(FILL);
+    lent.bases.fill(FILL);
+    lent.ends.fill(FILL);
+    step(&mut lent);
 }
 
-// Runs a table in lists that it fills first, and explains the run if asked to.
-fn run_filled(
-    rt: HostRuntime,
-    explains: bool,
-    t: &[u32],
-    inputs: &[u32],
-    registers: &[u32],
-    values: &mut [u32],
-    bases: &mut [u32],
-    ends: &mut [u32],
-    out: &mut [u8],
-    at: usize,
-) -> usize {
-    fill(values);
-    fill(bases);
-    fill(ends);
-    if explains {
-        let e = machine::explain(t, inputs, registers, values, bases, ends);
-        return put_explained(rt, out, at, e, values, bases, ends);
-    }
-    let a = machine::run(t, inputs, registers, values, bases, ends);
-    put_run(rt, out, at, a, values, bases, ends)
+fn run_case(rt: HostRuntime, program: Program, memory: &mut Memory, out: &mut Output) {
+    let a = machine::run(
+        program.table,
+        program.inputs,
+        program.registers,
+        memory.values,
+        memory.bases,
+        memory.ends,
+    );
+    put_run(rt, out, &a, memory);
 }
 
-fn run_case(
-    rt: HostRuntime,
-    explains: bool,
-    numbers: &[u32],
-    list: usize,
-    from: usize,
-    values: &mut [u32],
-    bases: &mut [u32],
-    ends: &mut [u32],
-    out: &mut [u8],
-    at: usize,
-) -> usize
-    requires { Within numbers.now list from }
-{
-    // A case has no longer lists than the program, so nothing is cut off: `least` stands for the proof of that.
-    let v = least(index(numbers[2]), values.len());
-    let b = least(index(numbers[3]), bases.len());
-    let e = least(index(numbers[4]), ends.len());
-    let inputs_end = list - 1;
-    let list_end = from - 1;
-    run_filled(
-        rt,
-        explains,
-        &numbers[from..],
-        &numbers[7..inputs_end],
-        &numbers[list..list_end],
-        &mut values[0..v],
-        &mut bases[0..b],
-        &mut ends[0..e],
-        out,
-        at,
-    )
+fn explain_case(rt: HostRuntime, program: Program, memory: &mut Memory, out: &mut Output) {
+    let e = machine::explain(
+        program.table,
+        program.inputs,
+        program.registers,
+        memory.values,
+        memory.bases,
+        memory.ends,
+    );
+    put_explained(rt, out, e, memory);
 }
 
-fn check_case(t: &[u32], out: &mut [u8], at: usize) -> usize {
+fn run_bare_case(rt: HostRuntime, program: Program, memory: &mut Memory, out: &mut Output) {
+    let values = front(memory.values, program.values);
+    values.fill(FILL);
+    let a = machine::run_bare(program.table, program.inputs, program.registers, values);
+    put_bare(rt, out, a, values);
+}
+
+fn check_case(t: &[u32], out: &mut Output) {
     match machine::check(t) {
-        Verdict::Passes => put_bytes(out, at, b"pass"),
-        Verdict::Refused(number, place) => lines::put_ending(
-            out,
-            at,
-            Answer::Refused(number, place),
-        ),
+        Ok(()) => out.put_bytes(b"pass"),
+        Err(r) => lines::put_refusal(out, r),
     }
 }
 
-fn answer_numbers(
-    rt: HostRuntime,
-    numbers: &[u32],
-    values: &mut [u32],
-    bases: &mut [u32],
-    ends: &mut [u32],
-    out: &mut [u8],
-    at: usize,
-) -> usize {
+fn answer_numbers(rt: HostRuntime, numbers: &[u32], memory: &mut Memory, out: &mut Output) {
     match Case::of(numbers) {
-        Case::Run(list, from) => run_case(
-            rt, false, numbers, list, from, values, bases, ends, out, at,
+        Some(Case::Run(program)) => in_lent(
+            program,
+            memory,
+            |lent| run_case(rt, program, lent, out),
         ),
-        Case::Check(from) => check_case(&numbers[from..], out, at),
-        Case::Explain(list, from) => run_case(
-            rt, true, numbers, list, from, values, bases, ends, out, at,
+        Some(Case::Check(table)) => check_case(table, out),
+        Some(Case::Explain(program)) => in_lent(
+            program,
+            memory,
+            |lent| explain_case(rt, program, lent, out),
         ),
-        Case::Bare(list, from) => run_bare_case(rt, numbers, list, from, values, out, at),
-        Case::Malformed => put_bytes(out, at, b"case"),
+        Some(Case::Bare(program)) => run_bare_case(rt, program, memory, out),
+        None => out.put_bytes(b"case"),
     }
 }
 
-fn answer_line(
-    rt: HostRuntime,
-    line: Line,
-    numbers: &[u32],
-    values: &mut [u32],
-    bases: &mut [u32],
-    ends: &mut [u32],
-    out: &mut [u8],
-    at: usize,
-) -> usize
-    requires { line.count ≤ length numbers.now }
-{
-    if !line.found {
-        return at;
-    }
-    let count = line.count;
-    let at = make_room(rt, out, at);
-    let at = answer_numbers(rt, &numbers[0..count], values, bases, ends, out, at);
-    put_bytes(out, at, b"\n")
-}
-
-// Answers every line. A proved loop has to end, so this one counts its turns down from a number that no run uses up.
-fn answer_all(
-    rt: HostRuntime,
-    buffer: &mut [u8],
-    numbers: &mut [u32],
-    values: &mut [u32],
-    bases: &mut [u32],
-    ends: &mut [u32],
-    out: &mut [u8],
-) -> usize {
-    let mut at = 0;
-    let mut part = Part::new();
-    let mut turns = u64::MAX;
-    while turns > 0 && part.state != Part::LAST {
-        let line = cases::next_line(rt, buffer, numbers, part);
-        part = line.part;
-        at = answer_line(rt, line, numbers, values, bases, ends, out, at);
-        turns -= 1;
-    }
-    at
+// Answers a line that has these numbers.
+fn answer_line(rt: HostRuntime, numbers: &[u32], memory: &mut Memory, out: &mut Output) {
+    make_room(rt, out);
+    answer_numbers(rt, numbers, memory, out);
+    out.put_bytes(b"\n");
 }
 
 fn main(rt: HostRuntime) {
@@ -379,15 +193,18 @@ fn main(rt: HostRuntime) {
     let mut values = [0u32; Case::WORDS];
     let mut bases = [0u32; Case::WORDS];
     let mut ends = [0u32; Case::WORDS];
-    let mut out = [0u8; 65536];
-    let at = answer_all(
+    let mut memory = Memory {
+        values: &mut values,
+        bases: &mut bases,
+        ends: &mut ends,
+    };
+    let mut bytes = [0u8; 65536];
+    let mut out = Output::new(&mut bytes);
+    cases::for_each_line(
         rt,
         &mut buffer,
         &mut numbers,
-        &mut values,
-        &mut bases,
-        &mut ends,
-        &mut out,
+        |numbers| answer_line(rt, numbers, &mut memory, &mut out),
     );
-    stream::flush(rt, &out, at);
+    stream::flush(rt, &mut out);
 }

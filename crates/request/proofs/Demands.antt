@@ -1,19 +1,20 @@
 -- What a list of numbers asks for, by its first two numbers and its length; and what the scanner's list says of the text.
-use Rattle.std.specs.Prelude.{if◌then◌else◌}
+use Rattle.std.specs.Prelude.{if◌then◌else◌, Some, None}
 use Prim.Native.Nat.{ℕ, zero, suc, ◌+◌, ◌-◌, ◌≤◌, ◌<◌}
 use mathlib.Core.Bool.{Bool, true, false, ◌&&◌, false≢true}
 use mathlib.Core.List.{List, [], ◌∷◌}
 use mathlib.Core.Path.{◌≡◌, refl, sym, ap, ◌∙◌}
 use native.Mathlib.Omega.{arith}
-use borrow.Author.Tests.{le-leb, lt-leb, leb-true, leb-false, eq-eqb, ne_eqb, eqb-true, eqb-false}
-use lib.Dec.{leb, eqb}
+use borrow.Author.Tests.{le-leb, lt-leb, leb-true, leb-false}
+use lib.Dec.{leb}
 use lib.ListN.{length, take, drop, get_or, length-drop}
 use lib.Seq.{length-take-le, get_or-take, drop-drop, take-nil, take-take}
 use Rattle.text.specs.Numbers.{Contents, holds, malformed, numbers}
 use Rattle.text.specs.Scan.{within, Finished}
 use Rattle.text.specs.declared.Scanner.{Scanner}
-use Rattle.request.specs.declared.Request.TheVariants.{Run, Malformed}
-use Rattle.request.specs.Request.{Demand, run, input, demand_after, demand_of, demand, stored, request_of, Requested}
+use Rattle.text.specs.declared.State.{State}
+use Rattle.text.specs.declared.State.TheVariants.{Between, Within, Bad}
+use Rattle.request.specs.Request.{Demand, run, input, demand_after, demand_of, demand, first_numbers, stored_in, stored, request_of, Requested}
 
 refuse : (t : Bool) (x y : Demand) → (t ≡ true → ⊥) → (if t then x else y) ≡ y
 refuse true x y deny = absurd (deny refl)
@@ -86,9 +87,16 @@ drop_take (suc m) (suc n) (x ∷ xs) h = let less : suc n - suc m ≡ n - m = om
 
 -- ---- answers
 
+in_good : (t : State) (c : Contents) → (t ≡ Bad → ⊥) → stored_in t c ≡ c
+unfolding stored_in
+in_good Between c good = refl
+in_good (Within v) c good = refl
+in_good Bad c good = absurd (good refl)
+
 module _ (list : List ℕ) (s : Scanner) where
   -- The limits on the numbers that the scanner has stored.
   pub record Stored : Type 0 where
+    pub good : s.state ≡ Bad → ⊥
     pub count : s.count ≤ length list
     pub both : 2 ≤ s.count
     pub memory : get_or list 0 0 ≤ 4096
@@ -96,43 +104,34 @@ module _ (list : List ℕ) (s : Scanner) where
     pub enough : 2 + get_or list 1 0 ≤ s.count
     pub table : s.count ≤ 2 + get_or list 1 0 + 2472
 
-  stored_bad : s.state ≡ 2 → stored list s ≡ malformed
-  unfolding stored
-  stored_bad e = rw (eq-eqb _ _ e)
+  stored_bad : s.state ≡ Bad → stored list s ≡ malformed
+  unfolding stored_in
+  stored_bad e = rw e
 
-  stored_good : (s.state ≡ 2 → ⊥) → s.count ≤ length list → stored list s ≡ holds (take s.count list)
-  unfolding stored
-  stored_good good n = rw (ne_eqb _ _ good, le-leb _ _ n)
+  stored_good : (s.state ≡ Bad → ⊥) → s.count ≤ length list → stored list s ≡ holds (take s.count list)
+  unfolding first_numbers
+  stored_good good n = in_good s.state _ good ∙ rw (le-leb _ _ n)
 
-  stored_short : (s.state ≡ 2 → ⊥) → length list < s.count → stored list s ≡ malformed
-  unfolding stored
-  stored_short good n = rw (ne_eqb _ _ good, lt-leb _ _ n)
+  stored_short : (s.state ≡ Bad → ⊥) → length list < s.count → stored list s ≡ malformed
+  unfolding first_numbers
+  stored_short good n = in_good s.state _ good ∙ rw (lt-leb _ _ n)
 
-  text_demand : (text : List ℕ) → 2538 ≤ length list → Finished text list s → demand (stored list s) ≡ demand (numbers text)
-  unfolding demand
-  text_demand text h f = go (eqb s.state 2) refl
+  -- By whether the text is malformed.
+  by_state : {P : Type 0} → (s.state ≡ Bad → P) → ((s.state ≡ Bad → ⊥) → P) → P
+  by_state {P} bad good = go s.state refl
     where
-      go : (t : Bool) → eqb s.state 2 ≡ t → demand (stored list s) ≡ demand (numbers text)
-      go true e =
-          let bad = eqb-true _ _ e in
-          ap demand (stored_bad bad) ∙ sym (no_demand_long (length list) (numbers text) h (f.bad bad))
-      go false e =
-          let good = f.good (eqb-false _ _ e) in
-          ap demand (stored_good (eqb-false _ _ e) good.0 ∙ sym good.1)
+      go : (t : State) → s.state ≡ t → P
+      go Between e = good (λ q. cc)
+      go (Within v) e = good (λ q. cc)
+      go Bad e = bad e
 
-  malformed_of : demand (stored list s) ≡ input → Requested list s Malformed
-  malformed_of e =
-      record {
-        does = ap request_of (sym e);
-        meets = text_demand;
-        parts = λ memory from k. absurd (let z : ◌≡◌ {A = ℕ} 0 1 = cc in omega arith);
-      }
-
-  pub of_bad : s.state ≡ 2 → Requested list s Malformed
+  pub text_demand : (text : List ℕ) → 2538 ≤ length list → Finished text list s → demand (stored list s) ≡ demand (numbers text)
   unfolding demand
-  of_bad e = malformed_of (ap demand (stored_bad e))
+  text_demand text h f =
+      by_state (λ bad. ap demand (stored_bad bad) ∙ sym (no_demand_long (length list) (numbers text) h (f.bad bad)))
+      (λ deny. let good = f.good deny in ap demand (stored_good deny good.0 ∙ sym good.1))
 
-  refused_demand : (s.state ≡ 2 → ⊥) → (Stored → ⊥) → demand (stored list s) ≡ input
+  refused_demand : (s.state ≡ Bad → ⊥) → (Stored → ⊥) → demand (stored list s) ≡ input
   unfolding demand
   refused_demand good deny = go (leb s.count (length list)) refl
     where
@@ -151,15 +150,18 @@ module _ (list : List ℕ) (s : Scanner) where
           let ta = z.table in
           let g0 = get_or-take s.count list 0 0 (omega arith) in
           let g1 = get_or-take s.count list 1 0 (omega arith) in
-          deny (record { count = n; both = omega arith; memory = omega arith; inputs = omega arith; enough = omega arith; table = omega arith }))
+          deny (record { good = good; count = n; both = omega arith; memory = omega arith; inputs = omega arith; enough = omega arith; table = omega arith }))
 
-  pub of_refused : (s.state ≡ 2 → ⊥) → (Stored → ⊥) → Requested list s Malformed
-  of_refused good deny = malformed_of (refused_demand good deny)
+  pub of_refused : (Stored → ⊥) → Requested list s None
+  unfolding demand
+  of_refused deny =
+      let nothing : demand (stored list s) ≡ input = by_state (λ bad. ap demand (stored_bad bad)) (λ good. refused_demand good deny) in
+      record { does = ap request_of (sym nothing); meets = text_demand; parts = λ q k. absurd cc }
 
-  run_demand : (memory inputs : ℕ) → memory ≡ get_or list 0 0 → inputs ≡ get_or list 1 0 → (s.state ≡ 2 → ⊥) → Stored
+  run_demand : (memory inputs : ℕ) → memory ≡ get_or list 0 0 → inputs ≡ get_or list 1 0 → Stored
       → demand (stored list s) ≡ run memory (take inputs (drop 2 list)) (take (s.count - (2 + inputs)) (drop (2 + inputs) list))
   unfolding demand
-  run_demand memory inputs e0 e1 good z =
+  run_demand memory inputs e0 e1 z =
       let xs = take s.count list in
       let l = length-take-le s.count list z.count in
       let b = z.both in
@@ -170,26 +172,26 @@ module _ (list : List ℕ) (s : Scanner) where
       let n = z.enough in
       let t = z.table in
       let sized : Sized xs = record { both = omega arith; memory = omega arith; inputs = omega arith; enough = omega arith; table = omega arith } in
-      let good_is = ap demand (stored_good good z.count) in
+      let good_is = ap demand (stored_good z.good z.count) in
       let front : take inputs (drop 2 xs) ≡ take inputs (drop 2 list) =
       ap (take inputs) (drop_take 2 s.count list (omega arith)) ∙ take-take inputs (s.count - 2) (drop 2 list) (omega arith) in
       let rest = drop_take (2 + inputs) s.count list (omega arith) in
       cc (good_is, a_demand xs sized)
 
-  pub of_run : (memory inputs : ℕ) → memory ≡ get_or list 0 0 → inputs ≡ get_or list 1 0 → (s.state ≡ 2 → ⊥) → Stored → Requested list s (Run memory (2 + inputs))
-  of_run memory inputs e0 e1 good z =
-      let d = run_demand memory inputs e0 e1 good z in
+  pub of_run : {memory inputs : ℕ} → memory ≡ get_or list 0 0 → inputs ≡ get_or list 1 0 → Stored → Requested list s (Some (record { memory = memory; from = 2 + inputs }))
+  of_run {memory} {inputs} e0 e1 z =
+      let d = run_demand memory inputs e0 e1 z in
       let a = z.memory in
       let b = z.enough in
       let l = z.count in
       let size : length (take inputs (drop 2 list)) ≡ inputs = length-take-le inputs (drop 2 list) (rw length-drop (omega arith)) in
       record {
-        does = sym (ap request_of d ∙ ap (λ n. Run memory (2 + n)) size);
+        does = sym (ap request_of d ∙ ap (λ n. Some (record { memory = memory; from = 2 + n })) size);
         meets = text_demand;
         parts =
-            λ memory' from k.
-            let m : memory ≡ memory' = cc in
-            let i : 2 + inputs ≡ from = cc in
-            let i2 : inputs ≡ from - 2 = omega arith in
+            λ q k.
+            let m : memory ≡ q.memory = cc in
+            let i : 2 + inputs ≡ q.from = cc in
+            let i2 : inputs ≡ q.from - 2 = omega arith in
             record { most = omega arith; two = omega arith; upto = omega arith; count = z.count; asked = cc };
       }

@@ -1,10 +1,11 @@
 -- What a text asks of the bench program.
-use Rattle.std.specs.Prelude.{ℕ, ◌+◌, ◌-◌, ◌≤◌, ◌&&◌, List, [], ◌∷◌, ◌≡◌, leb, eqb, length, take, drop, if◌then◌else◌}
+use Rattle.std.specs.Prelude.{ℕ, ◌+◌, ◌-◌, ◌≤◌, ◌&&◌, List, [], ◌∷◌, ◌≡◌, Option, Some, None, leb, length, take, drop, if◌then◌else◌}
 use Rattle.text.specs.Numbers.{Contents, holds, malformed, numbers}
 use Rattle.text.specs.Scan.{Finished}
 use Rattle.text.specs.declared.Scanner.{Scanner}
+use Rattle.text.specs.declared.State.{State}
+use Rattle.text.specs.declared.State.TheVariants.{Between, Within, Bad}
 use Rattle.request.specs.declared.Request.{Request}
-use Rattle.request.specs.declared.Request.TheVariants.{Run, Malformed}
 
 -- A run in memory of some length; or nothing, and the program prints the line `input` alone.
 pub data Demand : Type 0 where
@@ -29,19 +30,23 @@ unfoldable pub demand : Contents → Demand
 demand (holds xs) = demand_of xs
 demand malformed = input
 
--- What a scanner has stored when a text is finished: the numbers before its count. In state 2, and where the list is shorter, that is none.
-unfoldable pub stored : List ℕ → Scanner → Contents
-stored list s =
-    if eqb s.state 2
-    then malformed
-    else if leb s.count (length list)
-    then holds (take s.count list)
-    else malformed
+-- What a scanner has stored when a text is finished: the numbers before its count. Of a malformed text, and where the list is shorter,
+-- that is none.
+unfoldable pub first_numbers : List ℕ → ℕ → Contents
+first_numbers list count = if leb count (length list) then holds (take count list) else malformed
 
--- A demand as the numbers of the answer: the memory's length, and where the table starts, after two numbers and the inputs.
-abbrev pub request_of : Demand → Request
-request_of (run memory inputs table) = Run memory (2 + length inputs)
-request_of input = Malformed
+unfoldable pub stored_in : State → Contents → Contents
+stored_in Between c = c
+stored_in (Within v) c = c
+stored_in Bad c = malformed
+
+abbrev pub stored : List ℕ → Scanner → Contents
+stored list s = stored_in s.state (first_numbers list s.count)
+
+-- A demand as the answer: the memory's length, and where the table starts, after two numbers and the inputs.
+abbrev pub request_of : Demand → Option Request
+request_of (run memory inputs table) = Some (record { memory = memory; from = 2 + length inputs })
+request_of input = None
 
 -- Where the parts of a run stand in a list of numbers, and what they are.
 pub record Parts (list : List ℕ) (s : Scanner) (memory from : ℕ) : Type 0 where
@@ -52,9 +57,9 @@ pub record Parts (list : List ℕ) (s : Scanner) (memory from : ℕ) : Type 0 wh
   pub asked : demand (stored list s) ≡ run memory (take (from - 2) (drop 2 list)) (take (s.count - from) (drop from list))
 
 -- `Request::of` a list of numbers and a scanner, whatever they are.
-pub record Requested (list : List ℕ) (s : Scanner) (r : Request) : Type 0 where
+pub record Requested (list : List ℕ) (s : Scanner) (r : Option Request) : Type 0 where
   pub does : r ≡ request_of (demand (stored list s))
   -- At the end of a text it is what the text asks for: no text that asks for a run has more than 2 + 64 + 2,472 numbers.
   pub meets : (text : List ℕ) → 2538 ≤ length list → Finished text list s → demand (stored list s) ≡ demand (numbers text)
   -- So the parts lie in the list, and the memory in the program's own.
-  pub parts : (memory from : ℕ) → r ≡ Run memory from → Parts list s memory from
+  pub parts : (q : Request) → r ≡ Some q → Parts list s q.memory q.from

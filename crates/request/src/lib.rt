@@ -3,14 +3,13 @@
 
 ghost use Rattle.request.specs.Request.{Requested};
 
-use text::Scanner;
-use words::index;
+use text::{Scanner, State};
 
-// A run in memory of some length, of the table that starts at some place; or the numbers are no input.
+// A run in memory of some length, of the table that starts at some place in the numbers.
 #[derive(Clone, Copy)]
-pub enum Request {
-    Run(usize, usize),
-    Malformed,
+pub struct Request {
+    pub memory: usize,
+    pub from: usize,
 }
 
 impl Request {
@@ -21,33 +20,30 @@ impl Request {
 
     const TABLE: usize = 2472;
 
-    // The memory's length, the input count, the inputs, then the table, as a scanner that has finished a text has stored them.
-    pub fn of(numbers: &[u32], s: Scanner) -> Request
+    // The memory's length, the input count, the inputs, then the table, as a scanner that has finished a text has stored them. Other
+    // numbers are no input.
+    pub fn of(numbers: &[u32], s: Scanner) -> Option<Request>
         ensures { Requested numbers.now s result }
     {
+        if let State::Bad = s.state {
+            return None;
+        }
         let count = s.count;
-        if s.state == Scanner::BAD {
-            return Request::Malformed;
+        if numbers.len() < count || count < 2 {
+            return None;
         }
-        if numbers.len() < count {
-            return Request::Malformed;
+        let memory = numbers[0];
+        let inputs = numbers[1];
+        let from = 2 + inputs as usize;
+        if Request::MEMORY < memory || Request::INPUTS < inputs {
+            return None;
         }
-        if count < 2 {
-            return Request::Malformed;
+        if count < from || Request::TABLE < count - from {
+            return None;
         }
-        if Request::MEMORY < numbers[0] {
-            return Request::Malformed;
-        }
-        if Request::INPUTS < numbers[1] {
-            return Request::Malformed;
-        }
-        let from = 2 + index(numbers[1]);
-        if count < from {
-            return Request::Malformed;
-        }
-        if Request::TABLE < count - from {
-            return Request::Malformed;
-        }
-        Request::Run(index(numbers[0]), from)
+        Some(Request {
+            memory: memory as usize,
+            from,
+        })
     }
 }

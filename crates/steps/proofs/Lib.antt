@@ -1,4 +1,2 @@
 -- Laws that the functions' proofs cite.
-pub mod Slots
 pub mod Finish
-pub mod Moving

@@ -9,8 +9,9 @@ use borrow.Author.Tests.{le-leb, lt-leb, leb-true, leb-false}
 use lib.Dec.{leb, ltb}
 use lib.ListN.{length, take, drop, length-append, length-drop, take-append-drop}
 use lib.Seq.{length-take-le, take_at, drop-append-add, drop-drop}
-use Rattle.text.specs.Decimal.{last_digits, decimal, Puts}
-use Rattle.stream.specs.Items.{Item, word, number, item_bytes, item_room, bytes_of, room_of, Buffer, buffer, put_bytes, put_item, put_items, PutsItems}
+use Rattle.text.specs.Decimal.{last_digits, decimal, Puts, PutsIn}
+use Rattle.stream.specs.Items.{Item, word, number, item_bytes, item_room, bytes_of, room_of, Buffer, buffer, put_bytes, put_item, put_items, PutsItems, Prints}
+use Rattle.text.specs.declared.Output.{Output}
 
 -- ---- an item is no longer than its room
 
@@ -144,3 +145,18 @@ module _ {out : List ℕ} {at : ℕ} {out' : List ℕ} {r : ℕ} where
   -- One call after another.
   pub puts_then : {ps qs : List Item} {out'' : List ℕ} {r' : ℕ} → PutsItems ps out at out' r → PutsItems qs out' r out'' r' → PutsItems (ps ++ qs) out at out'' r'
   puts_then {ps} {qs} {out''} {r'} h k = puts_items (ps ++ qs) (k.does ∙ ap (put_items qs) h.does ∙ sym (put_both ps qs (buffer out at)))
+
+-- ---- outputs
+
+module _ {out out' : Output} where
+  pub prints_word : {bytes : List ℕ} → PutsIn (length bytes) bytes out out' → Prints (word bytes ∷ []) out out'
+  prints_word h = record { same_bytes = h.same_bytes; puts = puts_word h.puts }
+
+  pub prints_number : (x : ℕ) → PutsIn 20 (decimal x) out out' → Prints (number x ∷ []) out out'
+  prints_number x h = record { same_bytes = h.same_bytes; puts = puts_number x h.puts }
+
+pub prints_none : (out : Output) → Prints [] out out
+prints_none out = record { same_bytes = refl; puts = puts_none out.bytes.now out.at }
+
+pub prints_then : {ps qs : List Item} {out out' out'' : Output} → Prints ps out out' → Prints qs out' out'' → Prints (ps ++ qs) out out''
+prints_then h k = record { same_bytes = k.same_bytes ∙ h.same_bytes; puts = puts_then h.puts k.puts }

@@ -1,6 +1,7 @@
 -- Words and numbers that are put into a list of bytes one after the other.
 use Rattle.std.specs.Prelude.{ℕ, ◌+◌, ◌≤◌, List, [], ◌∷◌, ◌++◌, ◌≡◌, leb, length, take, drop, if◌then◌else◌}
 use Rattle.text.specs.Decimal.{decimal}
+use Rattle.text.specs.declared.Output.{Output}
 
 -- Some bytes, or a number in decimal.
 pub data Item : Type 0 where
@@ -52,3 +53,14 @@ pub record PutsItems (items : List Item) (out : List ℕ) (at : ℕ) (out' : Lis
       → (out' ≡ take at out ++ bytes_of items ++ drop (at + length (bytes_of items)) out) × (r ≡ at + length (bytes_of items))
   -- In every case: each item that has no room is left out.
   pub does : buffer out' r ≡ put_items items (buffer out at)
+
+-- A function that puts items into an output, in the bytes that it lends.
+pub record Prints (items : List Item) (out out' : Output) : Type 0 where
+  pub same_bytes : out'.bytes.ghost_name ≡ out.bytes.ghost_name
+  pub puts : PutsItems items out.bytes.now out.at out'.bytes.now out'.at
+
+-- A function that only moves the next free place of an output, to `at`.
+pub record Moves (at : ℕ) (out out' : Output) : Type 0 where
+  pub same_bytes : out'.bytes.ghost_name ≡ out.bytes.ghost_name
+  pub kept : out'.bytes.now ≡ out.bytes.now
+  pub place : out'.at ≡ at

@@ -1,22 +1,28 @@
 -- Parts of the input that a byte ends, and the place where output goes on.
-use Rattle.std.specs.Prelude.{ℕ, suc, ◌+◌, ◌≤◌, ◌<◌, List, [], ◌∷◌, ◌≡◌, leb, ltb, eqb, length, take, drop, if◌then◌else◌}
+use Rattle.std.specs.Prelude.{ℕ, ◌+◌, ◌≤◌, ◌<◌, List, ◌≡◌, ◌==◌, leb, ltb, eqb, length, take, drop, if◌then◌else◌}
+use Rattle.std.specs.List.{position_or_len}
 use Rattle.stream.specs.declared.Part.{Part}
+use Rattle.stream.specs.declared.PartEnd.{PartEnd}
+use Rattle.stream.specs.declared.PartEnd.TheVariants.{Open, Closed, Last}
 
 -- How many bytes stand before the first b: all of them where there is none.
-unfoldable pub before : ℕ → List ℕ → ℕ
-before b [] = 0
-before b (x ∷ xs) = if eqb x b then 0 else suc (before b xs)
+abbrev pub before : ℕ → List ℕ → ℕ
+before b xs = position_or_len (λ x. x == b) xs
 
--- State 0: the text goes on in the next part. State 1: the byte that ends it stands after the part, and the next part starts behind it.
+-- The text goes on in the next part.
 abbrev pub open_part : (from to filled : ℕ) → Part
-open_part from to filled = record { from = from; to = to; next = to; filled = filled; state = 0 }
+open_part from to filled = record { from = from; to = to; next = to; filled = filled; end = Open }
 
+-- The byte that ends the text stands after the part, and the next part starts behind it.
 abbrev pub closed_part : (from to filled : ℕ) → Part
-closed_part from to filled = record { from = from; to = to; next = to + 1; filled = filled; state = 1 }
+closed_part from to filled = record { from = from; to = to; next = to + 1; filled = filled; end = Closed }
 
--- State 2: the input has ended.
+abbrev pub empty_part : PartEnd → Part
+empty_part end = record { from = 0; to = 0; next = 0; filled = 0; end = end }
+
+-- The input has ended.
 abbrev pub last_part : Part
-last_part = record { from = 0; to = 0; next = 0; filled = 0; state = 2 }
+last_part = empty_part Last
 
 abbrev pub part_to : (from to filled : ℕ) → Part
 part_to from to filled = if ltb to filled then closed_part from to filled else open_part from to filled

@@ -1,11 +1,23 @@
 // Standard input in parts that a byte ends, and standard output in large pieces.
 #![tactic(auto)]
 
-ghost use Rattle.std.specs.Prelude.{◌+◌, ◌≤◌, min, [], ◌∷◌, ◌≡◌, length, drop};
-ghost use Rattle.stream.specs.Items.{word, number, PutsItems};
-ghost use Rattle.stream.specs.Parts.{before, open_part, part_of, NextPart, free_place};
+ghost use Rattle.std.specs.Prelude.{◌≤◌, ◌==◌, [], ◌∷◌, ◌≡◌, length, position};
+ghost use Rattle.stream.specs.Items.{word, number, Prints, Moves};
+ghost use Rattle.stream.specs.Parts.{empty_part, open_part, part_of, NextPart, free_place};
 
 use std::io::{Read, Write};
+use text::Output;
+
+// What follows a part of the input.
+#[derive(Clone, Copy, PartialEq, Eq)]
+pub enum PartEnd {
+    // The text goes on in the next part.
+    Open,
+    // The byte that ends a text stands after the part.
+    Closed,
+    // The input has ended. The part is empty.
+    Last,
+}
 
 // Bytes `from` to `to` of a buffer that holds `filled` bytes of the input. The next part starts at `next`.
 #[derive(Clone, Copy)]
@@ -14,46 +26,36 @@ pub struct Part {
     pub to: usize,
     pub next: usize,
     pub filled: usize,
-    pub state: u32,
+    pub end: PartEnd,
 }
 
 impl Part {
-    // The text goes on in the next part.
-    pub const OPEN: u32 = 0;
-
-    // The byte that ends a text stands after the part.
-    pub const CLOSED: u32 = 1;
-
-    // The input has ended. The part is empty.
-    pub const LAST: u32 = 2;
-
-    // Before the first part.
-    pub fn new() -> Part
-        ensures { result ≡ open_part 0 0 0 }
+    // Before the first part, at `PartEnd::Open`; or after the last.
+    fn empty(end: PartEnd) -> Part
+        ensures { result ≡ empty_part end }
     {
         Part {
             from: 0,
             to: 0,
             next: 0,
             filled: 0,
-            state: Part::OPEN,
+            end,
         }
+    }
+
+    // Before the first part.
+    pub fn new() -> Part
+        ensures { result ≡ open_part 0 0 0 }
+    {
+        Part::empty(PartEnd::Open)
     }
 }
 
-// The place of the first byte b from `from` on, or the length.
-fn find(bytes: &[u8], from: usize, b: u8) -> usize
-    requires { from ≤ length bytes.now }
-    ensures { (result ≡ from + before b (drop from bytes.now)) × (result ≤ length bytes.now) }
+// The place of the first byte b, if there is one.
+fn find(bytes: &[u8], b: u8) -> Option<usize>
+    ensures { result ≡ position (λ x. x == b) bytes.now }
 {
-    let mut i = from;
-    while i < bytes.len() {
-        if bytes[i] == b {
-            return i;
-        }
-        i += 1;
-    }
-    i
+    bytes.iter().position(|x| *x == b)
 }
 
 // The part from `from` on, in what is read.
@@ -61,22 +63,22 @@ fn cut(bytes: &[u8], from: usize, b: u8) -> Part
     requires { from ≤ length bytes.now }
     ensures { (result ≡ part_of bytes.now from b) × (result.from ≤ result.to) × (result.to ≤ length bytes.now) }
 {
-    let to = find(bytes, from, b);
-    if to < bytes.len() {
-        return Part {
+    let filled = bytes.len();
+    match find(&bytes[from..], b) {
+        Some(before) => Part {
             from,
-            to,
-            next: to + 1,
-            filled: bytes.len(),
-            state: Part::CLOSED,
-        };
-    }
-    Part {
-        from,
-        to,
-        next: to,
-        filled: bytes.len(),
-        state: Part::OPEN,
+            to: from + before,
+            next: from + before + 1,
+            filled,
+            end: PartEnd::Closed,
+        },
+        None => Part {
+            from,
+            to: filled,
+            next: filled,
+            filled,
+            end: PartEnd::Open,
+        },
     }
 }
 
@@ -84,16 +86,14 @@ fn cut(bytes: &[u8], from: usize, b: u8) -> Part
 pub fn read_some(rt: HostRuntime, buffer: &mut [u8]) -> usize
     ensures { result ≤ length buffer.new }
 {
-    match rt.stdin().read(buffer) {
-        Ok(n) => n,
-        Err(_) => 0,
-    }
+    rt.stdin().read(buffer).unwrap_or(0)
 }
 
 // Reads until a buffer is full, the input ends or a read fails, and tells how many bytes it has put at the buffer's start.
 pub fn read_full(rt: HostRuntime, buffer: &mut [u8]) -> usize
     ensures { result ≤ length buffer.new }
 {
+    // A while: each read tells how far to go on.
     let mut done = 0;
     while done < buffer.len() {
         let n = read_some(rt, &mut buffer[done..]);
@@ -109,64 +109,53 @@ pub fn read_full(rt: HostRuntime, buffer: &mut [u8]) -> usize
 pub fn next_part(rt: HostRuntime, buffer: &mut [u8], last: Part, b: u8) -> Part
     ensures { NextPart buffer.old last b buffer.new result }
 {
-    let from = last.next;
-    let filled = last.filled;
-    if filled <= buffer.len() {
-        if from < filled {
-            return cut(&buffer[0..filled], from, b);
-        }
+    if last.filled <= buffer.len() && last.next < last.filled {
+        return cut(&buffer[..last.filled], last.next, b);
     }
     let n = read_some(rt, buffer);
     if n == 0 {
-        return Part {
-            from: 0,
-            to: 0,
-            next: 0,
-            filled: 0,
-            state: Part::LAST,
-        };
+        return Part::empty(PartEnd::Last);
     }
-    cut(&buffer[0..n], 0, b)
+    cut(&buffer[..n], 0, b)
 }
 
-pub fn least(a: usize, b: usize) -> usize
-    ensures { (result ≡ min a b) × (result ≤ a) × (result ≤ b) }
-{
-    if a < b { a } else { b }
+// Writes some bytes to standard output. A write that fails is given up.
+pub fn print(rt: HostRuntime, bytes: &[u8]) {
+    let _ = rt.stdout().write_all(bytes);
 }
 
-// Writes the first `at` bytes to standard output, and answers the next free place, 0. A write that fails is given up.
-pub fn flush(rt: HostRuntime, out: &[u8], at: usize) -> usize
-    ensures { result ≡ 0 }
-{
-    if at <= out.len() {
-        match rt.stdout().write_all(&out[0..at]) {
-            Ok(()) => {}
-            Err(_) => {}
-        }
+// By the whole output, which is read only: after a loan of its bytes alone, nothing would be known of them.
+fn print_all(rt: HostRuntime, out: &Output) {
+    if let Some(bytes) = out.bytes.get(..out.at) {
+        print(rt, bytes);
     }
-    0
+}
+
+// Writes what is to be printed, and starts again from the first byte.
+pub fn flush(rt: HostRuntime, out: &mut Output)
+    ensures { Moves 0 out.old out.new }
+{
+    print_all(rt, out);
+    out.at = 0;
 }
 
 // Room for some words and numbers of a line.
 const ROOM: usize = 128;
 
-// The next free place, after a flush if less than `ROOM` is left.
-pub fn make_room(rt: HostRuntime, out: &[u8], at: usize) -> usize
-    ensures { result ≡ free_place (length out.now) at }
+// Flushes if less than `ROOM` is left.
+pub fn make_room(rt: HostRuntime, out: &mut Output)
+    ensures { Moves (free_place (length out.old.bytes.now) out.old.at) out.old out.new }
 {
-    if at <= out.len() {
-        if ROOM <= out.len() - at {
-            return at;
-        }
+    let size = out.bytes.len();
+    if size < out.at || size - out.at < ROOM {
+        flush(rt, out);
     }
-    flush(rt, out, at)
 }
 
 // Some bytes and then a number.
-pub fn put_after(out: &mut [u8], at: usize, bytes: &[u8], x: u64) -> usize
-    ensures { PutsItems (word bytes.now ∷ number x ∷ []) out.old at out.new result }
+pub fn put_after(out: &mut Output, bytes: &[u8], x: u64)
+    ensures { Prints (word bytes.now ∷ number x ∷ []) out.old out.new }
 {
-    let at = text::put_bytes(out, at, bytes);
-    text::put_number(out, at, x)
+    out.put_bytes(bytes);
+    out.put_number(x);
 }

@@ -1,43 +1,29 @@
 -- Laws of the loops over commands and over uses.
 use Prim.Native.Nat.{ℕ, zero, suc, ◌+◌, ◌*◌, ◌≤◌, ◌<◌}
-use mathlib.Core.Bool.{true, false}
+use mathlib.Core.Bool.{Bool}
 use mathlib.Core.Path.{◌≡◌, refl, sym, ◌∙◌, ap}
 use mathlib.Core.List.{[], ◌∷◌}
 use native.Mathlib.Omega.{arith}
-use borrow.Author.Tests.{eq-eqb, ne_eqb}
+use borrow.Author.Tests.{eq-eqb}
 use lib.Dec.{eqb}
 use Rattle.semantics.specs.Words.{Words, word, sum_below}
 use Rattle.semantics.specs.Table.{count, place, value, node_type}
-use Rattle.semantics.specs.Check.{Verdict, passes, refused, ◌or_else◌, require, each, is_child, command_place, command_value, command_fault, occurrences, uses, use_fault}
+use Rattle.semantics.specs.Check.{Verdict, passes, ◌or_else◌, require, each, is_child, command_place, command_value, command_fault, occurrences, uses, use_fault}
 use Rattle.semantics.proofs.Passed.{or_else_passes, require_passes}
 use Rattle.semantics.proofs.Trees.{is_child_true}
 use Rattle.layout.specs.Layout.{Stands}
 use Rattle.layout.specs.declared.Section.{Section}
-use Rattle.layout.proofs.Laws.{require_holds, require_refuses, or_else_pass, sum_more, place_at, item_at}
+use Rattle.layout.proofs.Laws.{require_holds, or_else_pass, sum_more, place_at, item_at}
 use Rattle.nodes.specs.Promises.{Counted}
 use Rattle.table.specs.Promises.{command_verdict, CommandsCounted, AllCounted}
 use Rattle.table.proofs.Uses.{uses_few}
 
 -- ---- one command
 
-module _ (t : Words) (n p x v : ℕ) (e : n ≡ count t 4) where
-  pub place_refused : is_child t place n x ≡ false → refused 7 p ≡ command_verdict t p x v
-  unfolding command_verdict require ◌or_else◌
-  place_refused q = rw (← e, q)
-
-  module _ (left : is_child t place n x ≡ true) where
-    pub value_refused : is_child t value n v ≡ false → refused 7 (p + 1) ≡ command_verdict t p x v
-    unfolding command_verdict require ◌or_else◌
-    value_refused q = rw (← e, left, q)
-
-    module _ (right : is_child t value n v ≡ true) where
-      pub types_refused : (node_type t x ≡ node_type t v → ⊥) → refused 8 p ≡ command_verdict t p x v
-      unfolding command_verdict require ◌or_else◌
-      types_refused q = rw (← e, left, right, ne_eqb (node_type t x) (node_type t v) q)
-
-      pub command_passes : node_type t x ≡ node_type t v → passes ≡ command_verdict t p x v
-      unfolding command_verdict require ◌or_else◌
-      command_passes q = rw (← e, left, right, eq-eqb (node_type t x) (node_type t v) q)
+pub command_by : (t : Words) (n p x v : ℕ) {left right same : Bool} → n ≡ count t 4 → left ≡ is_child t place n x → right ≡ is_child t value n v → same ≡ eqb (node_type t x) (node_type t v)
+    → require left 7 p or_else require right 7 (p + 1) or_else require same 8 p ≡ command_verdict t p x v
+unfolding command_verdict
+command_by t n p x v e a b s = rw (a, b, s, e)
 
 pub command_children : (t : Words) (p x v : ℕ) → command_verdict t p x v ≡ passes → (x < count t 4) × (v < count t 4)
 unfolding command_verdict
@@ -51,15 +37,15 @@ command_children t p x v e =
 -- ---- the commands so far
 
 module _ {t : Words} {l : Section} (h : Stands t 5 l) (c : ℕ) where
-  pub place_word : word t (l.at + 2 * c) ≡ command_place t c
-  place_word = sym (item_at h c 0 (l.at + 2 * c) (omega arith))
+  pub place_word : {x : ℕ} → x ≡ word t (l.at + 2 * c + 0) → x ≡ command_place t c
+  place_word e = e ∙ sym (item_at h c 0 (l.at + 2 * c + 0) (omega arith))
 
-  pub value_word : word t (l.at + 2 * c + 1) ≡ command_value t c
-  value_word = sym (item_at h c 1 (l.at + 2 * c + 1) (omega arith))
+  pub value_word : {v : ℕ} → v ≡ word t (l.at + 2 * c + 1) → v ≡ command_value t c
+  value_word e = e ∙ sym (item_at h c 1 (l.at + 2 * c + 1) (omega arith))
 
-  pub by_words : command_verdict t (l.at + 2 * c) (word t (l.at + 2 * c)) (word t (l.at + 2 * c + 1)) ≡ command_fault t c
+  pub by_words : {x v : ℕ} → x ≡ word t (l.at + 2 * c + 0) → v ≡ word t (l.at + 2 * c + 1) → command_verdict t (l.at + 2 * c) x v ≡ command_fault t c
   unfolding command_verdict command_fault
-  by_words = rw (place_word, value_word, place_at h c 0 (l.at + 2 * c) (omega arith), place_at h c 1 (l.at + 2 * c + 1) (omega arith))
+  by_words e f = rw (place_word e, value_word f, place_at h c 0 (l.at + 2 * c) (omega arith), place_at h c 1 (l.at + 2 * c + 1) (omega arith))
 
 pub counted_none : (t used : Words) → CommandsCounted t used used 0
 unfolding sum_below
@@ -89,7 +75,6 @@ module _ {t used : Words} (all : AllCounted t used) where
   unfolding use_fault
   all_once n h = all_pass (use_fault t) n (λ k less. require_holds (eqb (uses t k) 1) 9 _ (eq-eqb (uses t k) 1 (sym (all.all k) ∙ h k less)))
 
-  pub not_once : {l : Section} → Stands t 4 l → (n : ℕ) → (word used n ≡ 1 → ⊥) → use_fault t n ≡ refused 9 (l.at + 3 * n)
+  pub use_by : {l : Section} → Stands t 4 l → (n : ℕ) {times : ℕ} → times ≡ word used n → require (eqb times 1) 9 (l.at + 3 * n) ≡ use_fault t n
   unfolding use_fault
-  not_once {l} h n other =
-      rw (place_at h n 0 (l.at + 3 * n) (omega arith)) (require_refuses (eqb (uses t n) 1) 9 (l.at + 3 * n) (ne_eqb (uses t n) 1 (λ e. other (all.all n ∙ e))))
+  use_by {l} h n e = rw (place_at h n 0 (l.at + 3 * n) (omega arith), e, all.all n)

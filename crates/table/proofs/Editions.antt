@@ -1,35 +1,38 @@
 -- Laws of notes to which the edition is added.
+use Rattle.std.specs.Prelude.{Result}
 use Prim.Native.Nat.{ℕ, ◌+◌, ◌≤◌, ◌<◌}
-use mathlib.Core.Bool.{Bool, true, false}
 use mathlib.Core.Path.{◌≡◌, refl, ap, ◌∙◌}
 use native.Mathlib.Omega.{arith}
 use borrow.Author.Tests.{ltb-true}
-use lib.ListN.{length}
+use lib.ListN.{length, take}
+use Rattle.std.proofs.lemmas.List.{get_or-take}
 use Rattle.semantics.specs.Words.{Words, word}
 use Rattle.semantics.specs.Table.{Edition, edition_1, edition_2, edition, pointers, nodes, count, known_type, node_type}
 use Rattle.semantics.specs.Check.{Verdict, passes, refused, ◌or_else◌, check}
 use Rattle.semantics.proofs.Passed.{passed, section_ok}
 use Rattle.semantics.proofs.Trees.{types_known}
-use Rattle.layout.specs.Layout.{edition_by, sections_fault}
+use Rattle.layout.specs.Layout.{sections_fault}
 use Rattle.layout.specs.Lists.{by_verdict}
 use Rattle.layout.specs.Types.{types_fault}
-use Rattle.layout.specs.declared.Parsed.{Parsed}
+use Rattle.layout.specs.declared.Refusal.{Refusal}
+use Rattle.layout.specs.declared.Table.{Table}
 use Rattle.layout.specs.Notes.{as_of, note}
 use Rattle.layout.proofs.Notes.{note_few}
-use Rattle.layout.proofs.Lists.{filled_at, filled_length}
+use Rattle.layout.specs.Lists.{filled}
+use Rattle.layout.proofs.Lists.{filled_at, filled_after, filled_length}
 use Rattle.table.specs.Promises.{notes_noted, edition_noted, Left, Checks}
 
 module _ (n : ℕ) (l : Words) where
-  pub edition_length : (e : Edition) → length (edition_noted e n l) ≡ length l
-  edition_length edition_1 = refl
-  edition_length edition_2 = filled_length l 0 _ n
-
   pub edition_at : (e : Edition) (i : ℕ) → i < n → n ≤ length l → word (edition_noted e n l) i ≡ as_of e (word l i)
   edition_at edition_1 i less room = refl
   edition_at edition_2 i less room = filled_at l 0 _ n i i (omega arith) (omega arith) less
 
+-- A note among the first n to which nothing is added yet.
+pub still : (n i : ℕ) (l : Words) (g : ℕ → ℕ) {l' : Words} → l' ≡ filled (take n l) 0 i g → i < n → word l' i ≡ word l i
+still n i l g e less = ap (λ (k : Words). word k i) e ∙ filled_after (take n l) 0 g i i (omega arith) ∙ get_or-take n l i 0 less
+
 -- The check leaves its list of notes as long as it was.
-pub notes_long : {t first first' sizes sizes' offsets offsets' notes notes' : Words} {r : Parsed} → Checks t first first' sizes sizes' offsets offsets' notes notes' r
+pub notes_long : {t first first' sizes sizes' offsets offsets' notes notes' : Words} {r : Result Table Refusal} → Checks t first first' sizes sizes' offsets offsets' notes notes' r
     → length notes' ≡ length notes
 unfolding notes_noted
 notes_long {t} {notes = notes} c = ap length c.notes_is ∙ go (sections_fault t or_else types_fault t)
@@ -62,11 +65,3 @@ module _ {t first sizes offsets notes : Words} (pass : check t ≡ passes) (left
         size_is = left.size_is;
         offset_is = left.offset_is;
       }
-
--- By whether there is a mark.
-module _ (n : ℕ) (l : Words) {e : Edition} {b : Bool} (by : edition_by b ≡ e) where
-  pub noted_marked : {l' : Words} → b ≡ true → l' ≡ edition_noted edition_2 n l → l' ≡ edition_noted e n l
-  noted_marked q h = rw (← by, q) h
-
-  pub noted_unmarked : b ≡ false → l ≡ edition_noted e n l
-  noted_unmarked q = rw (← by, q)

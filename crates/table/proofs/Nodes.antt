@@ -1,4 +1,5 @@
 -- Laws of the loop over nodes.
+use Rattle.std.specs.Prelude.{Result, ⊤}
 use Prim.Native.Nat.{ℕ, ◌+◌, ◌*◌, ◌≤◌, ◌<◌}
 use mathlib.Core.Path.{◌≡◌, refl, sym, ap, ◌∙◌}
 use mathlib.Core.List.{◌++◌}
@@ -13,7 +14,7 @@ use Rattle.semantics.specs.Check.{passes, refused, each, node_fault, occurrences
 use Rattle.semantics.proofs.Passed.{TypesPassed}
 use Rattle.layout.specs.Layout.{Stands}
 use Rattle.layout.specs.declared.Section.{Section}
-use Rattle.layout.specs.declared.Verdict.{Verdict}
+use Rattle.layout.specs.declared.Refusal.{Refusal}
 use Rattle.layout.specs.Lists.{filled}
 use Rattle.layout.proofs.Laws.{sum_more, each_more, place_at}
 use Rattle.layout.proofs.Lists.{filled_more, passed_to, passed_all}
@@ -54,7 +55,7 @@ module _ {t notes used : Words} {l : Section} {n : ℕ} (h : Stands t 4 l) (less
   pub room : Room notes used
   room = record { notes_length = before.notes_length; uses_length = before.uses_length; few = λ i. omega (arith, few_uses before i, h.limited) }
 
-  module _ {notes' used' : Words} {r : Verdict} (now : Noted t n r notes notes' used used') (pass : node_fault t n ≡ passes) where
+  module _ {notes' used' : Words} {r : Result ⊤ Refusal} (now : Noted t n r notes notes' used used') (pass : node_fault t n ≡ passes) where
     entered : notes' ≡ set notes n (note edition_1 t n)
     entered = rw pass at now.noted
 
@@ -81,7 +82,7 @@ module _ (t l : Words) (n : ℕ) {notes : Words} (before : each n (node_fault t)
   unfolding notes_noted
   notes_all q = rw (← q, passed_all (node_fault t) n before) e
 
-  module _ {notes' used used' : Words} {r : Verdict} (now : Noted t n r notes notes' used used') where
+  module _ {notes' used used' : Words} {r : Result ⊤ Refusal} (now : Noted t n r notes notes' used used') where
     pub notes_more : node_fault t n ≡ passes → notes' ≡ filled l 0 (n + 1) (note edition_1 t)
     notes_more pass = rw pass at now.noted ∙ filled_more l 0 (note edition_1 t) n n (note edition_1 t n) e (omega arith) refl
 

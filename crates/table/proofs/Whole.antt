@@ -1,4 +1,5 @@
 -- Laws of the whole check, whose parts are gone through in turn.
+use Rattle.std.specs.Prelude.{Result}
 use Prim.Native.Nat.{ℕ, ◌+◌, ◌<◌}
 use mathlib.Core.Path.{◌≡◌, ◌∙◌}
 use native.Mathlib.Omega.{arith}
@@ -10,8 +11,10 @@ use Rattle.semantics.proofs.Passed.{or_else_passes, each_passes, TypesPassed, se
 use Rattle.layout.specs.Layout.{sections_fault, layout_by, parsed}
 use Rattle.layout.specs.Lists.{by_verdict}
 use Rattle.layout.specs.Types.{types_fault, first_left}
-use Rattle.layout.specs.declared.Parsed.{Parsed}
-use Rattle.layout.specs.declared.Parsed.TheVariants.{Refused}
+use Rattle.layout.specs.Refusals as answer
+use Rattle.layout.specs.Refusals.{number_of, Outcome, outcome_of}
+use Rattle.layout.specs.declared.Refusal.{Refusal}
+use Rattle.layout.specs.declared.Table.{Table}
 use Rattle.layout.proofs.Laws.{or_else_pass, or_else_refuse, or_else_assoc}
 use Rattle.sizes.specs.Sizes.{sizes_noted, offsets_noted}
 use Rattle.sizes.proofs.Sums.{size_at, offset_at}
@@ -101,25 +104,25 @@ no_pass : {v : Verdict} {n p : ℕ} {P : Type 0} → v ≡ refused n p → v ≡
 no_pass e q = absurd (let z : ◌≡◌ {A = ℕ} 0 1 = cc in omega arith)
 
 module _ (t first sizes offsets notes : Words) where
-  pub sections_ended : {n p : ℕ} → sections_fault t ≡ refused n p → Checks t first first sizes sizes offsets offsets notes notes (Refused n p)
-  sections_ended e =
+  pub sections_ended : {n p : ℕ} {r : Result Table Refusal} → outcome_of r ≡ answer.refused n p → sections_fault t ≡ refused n p → Checks t first first sizes sizes offsets offsets notes notes r
+  sections_ended q e =
       let whole = sections_refuse t e in
-      record { answer = rw whole; first_is = rw e; notes_is = rw (or_else_refuse (sections_fault t) (types_fault t) e); sizes_is = rw whole; offsets_is = rw whole; left = no_pass whole }
+      record { answer = rw whole q; first_is = rw e; notes_is = rw (or_else_refuse (sections_fault t) (types_fault t) e); sizes_is = rw whole; offsets_is = rw whole; left = no_pass whole }
 
   module _ (sections_pass : sections_fault t ≡ passes) {first' : Words} (h : first' ≡ first_left t first) where
-    pub types_ended : {n p : ℕ} → types_fault t ≡ refused n p → Checks t first first' sizes sizes offsets offsets notes notes (Refused n p)
-    types_ended e =
+    pub types_ended : {n p : ℕ} {r : Result Table Refusal} → outcome_of r ≡ answer.refused n p → types_fault t ≡ refused n p → Checks t first first' sizes sizes offsets offsets notes notes r
+    types_ended q e =
         let whole = types_refuse t sections_pass e in
-        record { answer = rw whole; first_is = rw sections_pass h; notes_is = rw (or_else_pass (sections_fault t) (types_fault t) sections_pass, e); sizes_is = rw whole; offsets_is = rw whole; left = no_pass whole }
+        record { answer = rw whole q; first_is = rw sections_pass h; notes_is = rw (or_else_pass (sections_fault t) (types_fault t) sections_pass, e); sizes_is = rw whole; offsets_is = rw whole; left = no_pass whole }
 
     module _ (types_pass : types_fault t ≡ passes) {notes' : Words} (k : notes' ≡ notes_noted t notes) where
       notes_left : notes' ≡ by_verdict (sections_fault t or_else types_fault t) (notes_noted t notes) notes
       notes_left = rw (or_else_pass (sections_fault t) (types_fault t) sections_pass, types_pass) k
 
-      pub rest_ended : {n p : ℕ} → check t ≡ refused n p → Checks t first first' sizes sizes offsets offsets notes notes' (Refused n p)
-      rest_ended e = record { answer = rw e; first_is = rw sections_pass h; notes_is = notes_left; sizes_is = rw e; offsets_is = rw e; left = no_pass e }
+      pub rest_ended : {n p : ℕ} {r : Result Table Refusal} → outcome_of r ≡ answer.refused n p → check t ≡ refused n p → Checks t first first' sizes sizes offsets offsets notes notes' r
+      rest_ended q e = record { answer = rw e q; first_is = rw sections_pass h; notes_is = notes_left; sizes_is = rw e; offsets_is = rw e; left = no_pass e }
 
-      pub all_passed : {sizes' offsets' : Words} {r : Parsed} → check t ≡ passes → r ≡ layout_by t passes
+      pub all_passed : {sizes' offsets' : Words} {r : Result Table Refusal} → check t ≡ passes → outcome_of r ≡ layout_by t passes
           → sizes' ≡ sizes_noted t (count t records) sizes → offsets' ≡ offsets_noted t (count t records) offsets → Left edition_1 t first' sizes' offsets' notes'
           → Checks t first first' sizes sizes' offsets offsets' notes notes' r
       all_passed e q a b l = record { answer = rw e q; first_is = rw sections_pass h; notes_is = notes_left; sizes_is = rw e a; offsets_is = rw e b; left = λ p. l }

@@ -1,12 +1,14 @@
 -- What the functions of this crate require and promise.
-use Rattle.std.specs.Prelude.{ℕ, ◌+◌, ◌≤◌, ◌<◌, ◌≡◌, [], ◌∷◌, eqb, length}
+use Rattle.std.specs.Prelude.{ℕ, ◌+◌, ◌≤◌, ◌<◌, ◌≡◌, [], ◌∷◌, Result, eqb, length}
 use Rattle.semantics.specs.Words.{Words, word, sum_below}
 use Rattle.semantics.specs.Table.{Edition, edition_1, edition_2, records, nodes, count, record_target, field_total, first_field, field_offset, size_of, place, value, children, node_type}
 use Rattle.semantics.specs.Check.{Verdict, passes, ◌or_else◌, require, node_fault, is_child, occurrences, command_place, command_value, uses, check}
 use Rattle.layout.specs.Layout.{sections_fault, layout_by}
 use Rattle.layout.specs.Lists.{filled, by_verdict, passed_below}
 use Rattle.layout.specs.Types.{types_fault, Tabulated, first_left}
-use Rattle.layout.specs.declared.Parsed.{Parsed}
+use Rattle.layout.specs.Refusals.{outcome_of}
+use Rattle.layout.specs.declared.Refusal.{Refusal}
+use Rattle.layout.specs.declared.Table.{Table}
 use Rattle.sizes.specs.Sizes.{sizes_noted, offsets_noted}
 use Rattle.layout.specs.Notes.{as_of, note}
 use Rattle.nodes.specs.Promises.{NotedTo}
@@ -73,8 +75,8 @@ pub record Left (e : Edition) (t first sizes offsets notes : Words) : Type 0 whe
 
 -- The answer of the whole check, and what its lists hold then, whether it passes or not: where a part is refused, the lists of the parts after
 -- it are as they were.
-pub record Checks (t first first' sizes sizes' offsets offsets' notes notes' : Words) (r : Parsed) : Type 0 where
-  pub answer : r ≡ layout_by t (check t)
+pub record Checks (t first first' sizes sizes' offsets offsets' notes notes' : Words) (r : Result Table Refusal) : Type 0 where
+  pub answer : outcome_of r ≡ layout_by t (check t)
   pub first_is : first' ≡ by_verdict (sections_fault t) (first_left t first) first
   pub notes_is : notes' ≡ by_verdict (sections_fault t or_else types_fault t) (notes_noted t notes) notes
   pub sizes_is : sizes' ≡ by_verdict (check t) (sizes_noted t (count t records) sizes) sizes

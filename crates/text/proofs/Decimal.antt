@@ -1,29 +1,26 @@
 -- Laws of decimal digits: the loops that write them, and that the digits of a number are read back as that number.
 use Rattle.std.specs.Prelude.{if◌then◌else◌}
 use Prim.Native.Nat.{ℕ, zero, suc, ◌+◌, ◌-◌, ◌/◌, ◌%◌, ◌^◌, ◌≤◌, ◌<◌}
-use mathlib.Core.Bool.{Bool, true, false, ◌&&◌, ◌||◌, false≢true}
+use mathlib.Core.Bool.{Bool, true, false, ◌&&◌, false≢true}
 use mathlib.Core.Path.{◌≡◌, refl, sym, ap, ◌∙◌}
 use mathlib.Core.List.{List, [], ◌∷◌, ◌++◌, append_assoc, append-nil}
 use native.Mathlib.Omega.{arith}
-use native.Mathlib.Numerals.{add-one}
 use native.Mathlib.Nat.{pow-suc}
-use borrow.Author.Tests.{lt-ltb, le-ltb, ltb-true, leb-true, ne_eqb}
-use lib.Dec.{leb, ltb, eqb}
-use lib.ListN.{length, take, drop, set, get_or, length-set, length-drop, drop_of_length-le}
-use lib.Seq.{drop-cons, drop-set-lt, get_or-set_same, paste, paste-zero, paste-suc, length-paste, take_all}
+use borrow.Author.Tests.{lt-ltb, le-ltb, ltb-true}
+use lib.Dec.{ltb}
+use lib.ListN.{length, drop, set, length-set, drop_of_length-le}
+use lib.Seq.{drop-cons, drop-set-lt, get_or-set_same}
 use Rattle.text.specs.Numbers.{limit, holds, separator, digit, digits, value_from, value, number, ◌then◌, numbers_after, numbers}
-use Rattle.text.specs.Decimal.{last_digits, decimal, Puts, Written}
+use Rattle.text.specs.Decimal.{last_digits, decimal, Written}
 use Rattle.text.proofs.Numbers.{digits_one, value_one, number_good, after_separator, after_other}
-use Rattle.text.proofs.Scanning.{is_digit}
+use Rattle.text.proofs.Scanning.{is_digit, no_separator}
 
 -- ---- digits written from the end of a list
 
--- Of the digits of x those from place i on are written; the others are those of y / 10.
+-- Of the digits of x those from place i on are written; the others are those of y.
 pub record Writing (x : ℕ) (list : List ℕ) (i y : ℕ) : Type 0 where
-  pub start : i < 20
   pub long : length list ≡ 20
-  pub small : y < 10 ^ suc i
-  pub rest : (if ltb y 10 then [] else last_digits i (y / 10)) ++ drop i list ≡ decimal x
+  pub rest : last_digits i y ++ drop i list ≡ decimal x
 
 drop_set : (list : List ℕ) (i b : ℕ) → i < length list → drop i (set list i b) ≡ b ∷ drop (suc i) list
 drop_set list i b inside =
@@ -33,80 +30,45 @@ one_digit : (n x : ℕ) → last_digits (suc n) x ≡ (if ltb x 10 then [] else 
 unfolding last_digits
 one_digit n x = refl
 
-pub writing_none : (x : ℕ) (list : List ℕ) (b : ℕ) → x < 2 ^ 64 → length list ≡ 20 → b ≡ 48 + x % 10 → Writing x (set list 19 b) 19 x
-writing_none x list b h e q =
-    let last : drop 19 (set list 19 b) ≡ (48 + x % 10) ∷ [] = drop_set list 19 b (omega arith) ∙ rw (drop_of_length-le list {i = 20} (omega arith), q) in
-    record { start = omega arith; long = length-set list 19 b ∙ e; small = omega arith; rest = rw last (sym (one_digit 19 x)) }
+pub writing_none : (x : ℕ) (list : List ℕ) → length list ≡ 20 → Writing x list 20 x
+writing_none x list e = record { long = e; rest = rw (drop_of_length-le list {i = 20} (omega arith)) (append-nil (decimal x)) }
 
-writing_suc : {x : ℕ} {list : List ℕ} {i y : ℕ} → Writing x list (suc i) y → 10 ≤ y → (b : ℕ) → b ≡ 48 + (y / 10) % 10 → Writing x (set list i b) i (y / 10)
-writing_suc {x} {list} {i} {y} h large b e =
-    record {
-      start = omega arith;
-      long = length-set list i b ∙ h.long;
-      small = omega (arith, pow-suc 10 (suc i), h.small);
-      rest =
-          ap (λ l. (if ltb (y / 10) 10 then [] else last_digits i (y / 10 / 10)) ++ l) (drop_set list i b (omega arith) ∙ ap (λ d. d ∷ drop (suc i) list) e)
-          ∙ sym (append_assoc (if ltb (y / 10) 10 then [] else last_digits i (y / 10 / 10)) ((48 + (y / 10) % 10) ∷ []) (drop (suc i) list))
-          ∙ ap (λ l. l ++ drop (suc i) list) (sym (one_digit i (y / 10)))
-          ∙ (rw (le-ltb y 10 large) at h.rest);
-    }
+-- One digit more is written, at place i.
+digit_written : {x : ℕ} {list : List ℕ} {i y : ℕ} → Writing x list (suc i) y → i < 20 → {b : ℕ} → b ≡ 48 + y % 10
+    → (if ltb y 10 then [] else last_digits i (y / 10)) ++ drop i (set list i b) ≡ decimal x
+digit_written {x} {list} {i} {y} h inside {b} e =
+    let long = h.long in
+    rw (drop_set list i b (omega arith), e)
+    (sym (append_assoc (if ltb y 10 then [] else last_digits i (y / 10)) ((48 + y % 10) ∷ []) (drop (suc i) list)) ∙ (rw (one_digit i y) at h.rest))
 
-pub writing_more : (i : ℕ) {x : ℕ} {list : List ℕ} {y : ℕ} → Writing x list i y → 10 ≤ y → (b : ℕ) → b ≡ 48 + (y / 10) % 10
+before_suc : (n : ℕ) → suc n - 1 ≡ n
+before_suc n = omega arith
+
+pub writing_more : {x : ℕ} {list : List ℕ} {i y : ℕ} → Writing x list i y → 0 < i → i ≤ 20 → {b : ℕ} → b ≡ 48 + y % 10 → (y / 10 ≡ 0 → ⊥)
     → Writing x (set list (i - 1) b) (i - 1) (y / 10)
-writing_more zero h large b e = absurd (omega (arith, h.small))
-writing_more (suc i) h large b e = rw (add_sub i) (writing_suc h large b e)
-  where
-    add_sub : (n : ℕ) → suc n - 1 ≡ n
-    add_sub n = omega arith
+writing_more {i = zero} h some most e more = absurd (omega arith)
+writing_more {x} {list} {i = suc n} {y} h some most {b} e more =
+    rw (before_suc n)
+    (record {
+      long = length-set list n b ∙ h.long;
+      rest = rw (le-ltb y 10 (omega arith)) at (digit_written h (omega arith) e);
+    })
 
-pub written : {x : ℕ} {list : List ℕ} {i y : ℕ} → Writing x list i y → y < 10 → Written x list i
-written {x} {list} {i} {y} h less = record { long = h.long; start = h.start; digits = rw (lt-ltb y 10 less) at h.rest }
+pub written : {x : ℕ} {list : List ℕ} {i y : ℕ} → Writing x list i y → 0 < i → i ≤ 20 → {b : ℕ} → b ≡ 48 + y % 10 → y / 10 ≡ 0 → Written x (set list (i - 1) b) (i - 1)
+written {i = zero} h some most e last = absurd (omega arith)
+written {x} {list} {i = suc n} {y} h some most {b} e last =
+    rw (before_suc n)
+    (record {
+      long = length-set list n b ∙ h.long;
+      start = omega arith;
+      digits = rw (lt-ltb y 10 (omega arith)) at (digit_written h (omega arith) e);
+    })
 
--- More digits are to come while y has two.
-pub writing_left : {x : ℕ} {list : List ℕ} {y : ℕ} (i : ℕ) → Writing x list i y → 10 ≤ y → 1 ≤ i
-writing_left zero h large = absurd (omega (arith, h.small))
-writing_left (suc i) h large = omega arith
+pub written_all : {x : ℕ} {list : List ℕ} {i y : ℕ} → Writing x list i y → i ≤ 0 → Written x list 0
+unfolding last_digits
+written_all {i = i} h none = let start : i ≡ 0 = omega arith in let h' = rw start at h in record { long = h'.long; start = omega arith; digits = h'.rest }
 
 -- ---- bytes put into a list
-
-pub puts_digits : {x : ℕ} {list : List ℕ} {i : ℕ} → Written x list i → (out : List ℕ) (at : ℕ) → at + 20 ≤ length out → {bytes out' : List ℕ} {r : ℕ}
-    → bytes ≡ take (20 - i) (drop i list) → Puts (length bytes) bytes out at out' r → Puts 20 (decimal x) out at out' r
-puts_digits {x} {list} {i} h out at room {bytes} {out'} {r} e puts =
-    let all : bytes ≡ drop i list = e ∙ take_all (20 - i) (drop i list) (rw (length-drop i list, h.long) (omega arith)) in
-    let same : bytes ≡ decimal x = all ∙ h.digits in
-    let count : length bytes ≤ 20 = rw (all, length-drop i list, h.long) (omega arith) in
-    record { fits = λ k. rw same at (puts.fits (omega arith)); full = λ k. absurd (omega arith) }
-
-pub puts_none : (room : ℕ) (bytes out : List ℕ) (at : ℕ) → length out < at + room → Puts room bytes out at out at
-puts_none room bytes out at h = record { fits = λ k. absurd (omega arith); full = λ k. (refl, refl) }
-
--- The first i bytes are copied.
-pub record Copying (bytes out₀ : List ℕ) (at : ℕ) (out : List ℕ) (i : ℕ) : Type 0 where
-  pub room : at + length bytes ≤ length out₀
-  pub done : i ≤ length bytes
-  pub copied : out ≡ paste out₀ at bytes i
-
-pub copying_none : (bytes out : List ℕ) (at : ℕ) → at + length bytes ≤ length out → Copying bytes out at out 0
-copying_none bytes out at h = record { room = h; done = omega arith; copied = paste-zero out at bytes }
-
-pub copying_length : {bytes out₀ : List ℕ} {at : ℕ} {out : List ℕ} {i : ℕ} → Copying bytes out₀ at out i → length out ≡ length out₀
-copying_length {bytes} {out₀} {at} {out} {i} h = ap length h.copied ∙ length-paste out₀ at bytes i (omega arith) h.done
-
-pub copying_more : {bytes out₀ : List ℕ} {at : ℕ} {out : List ℕ} {i : ℕ} → Copying bytes out₀ at out i → i < length bytes → Copying bytes out₀ at (set out (at + i) (get_or bytes i 0)) (i + 1)
-copying_more {bytes} {out₀} {at} {out} {i} h inside =
-    record {
-      room = h.room;
-      done = omega arith;
-      copied = ap (λ l. set l (at + i) (get_or bytes i 0)) h.copied ∙ paste-suc out₀ at bytes i 0 (omega arith) inside ∙ ap (paste out₀ at bytes) (sym (add-one i));
-    }
-
-pub copying_all : {bytes out₀ : List ℕ} {at : ℕ} {out : List ℕ} {i : ℕ} → Copying bytes out₀ at out i → length bytes ≤ i → Puts (length bytes) bytes out₀ at out (at + length bytes)
-copying_all {bytes} {out₀} {at} {out} {i} h all =
-    let e : i ≡ length bytes = omega arith in
-    record {
-      fits = λ k. (h.copied ∙ ap (paste out₀ at bytes) e ∙ rw (take_all (length bytes) bytes (omega arith)), refl);
-      full = λ k. absurd (omega arith);
-    }
 
 -- ---- digits read back
 
@@ -141,14 +103,6 @@ number_decimal x h =
     ap number (one_digit 19 x)
     ∙ number_run (if ltb x 10 then [] else last_digits 19 (x / 10)) (48 + x % 10) (rw (one_digit 19 x) at (digits_decimal 20 x)) (omega (arith, rw (one_digit 19 x) at e))
     ∙ ap (λ v. holds (v ∷ [])) (rw (one_digit 19 x) at e)
-
-no_separator : (b : ℕ) → digit b ≡ true → separator b ≡ false
-unfolding digit separator
-no_separator b e = go (leb 48 b) refl e
-  where
-    go : (t : Bool) → leb 48 b ≡ t → t && leb b 57 ≡ true → eqb b 32 || eqb b 10 ≡ false
-    go true q k = let large : 48 ≤ b = leb-true 48 b q in simp (ne_eqb b 32 (λ z. omega arith), ne_eqb b 10 (λ z. omega arith))
-    go false q k = absurd (false≢true k)
 
 after_digits : (run ds rest : List ℕ) → digits ds ≡ true → numbers_after run (ds ++ rest) ≡ numbers_after (run ++ ds) rest
 unfolding digits

@@ -1,7 +1,9 @@
 -- The scanner: a text is read in chunks, and each number is stored where it ends.
-use Rattle.std.specs.Prelude.{ℕ, ◌+◌, ◌*◌, ◌-◌, ◌<◌, ◌≤◌, true, ◌&&◌, List, [], ◌∷◌, ◌++◌, ◌≡◌, leb, ltb, eqb, length, take, set, if◌then◌else◌}
+use Rattle.std.specs.Prelude.{ℕ, ◌+◌, ◌*◌, ◌-◌, ◌<◌, ◌≤◌, true, ◌&&◌, List, [], ◌∷◌, ◌++◌, ◌≡◌, leb, ltb, length, take, set, if◌then◌else◌}
 use Rattle.text.specs.Numbers.{limit, Contents, holds, malformed, separator, digit, digits, value, ◌then◌, numbers_after, numbers}
 use Rattle.text.specs.declared.Scanner.{Scanner}
+use Rattle.text.specs.declared.State.{State}
+use Rattle.text.specs.declared.State.TheVariants.{Between, Within, Bad}
 
 -- ---- what a call promises of the text
 
@@ -10,22 +12,22 @@ unfoldable pub within : ℕ → Contents → Contents
 within room (holds xs) = if leb (length xs) room then holds xs else malformed
 within room malformed = malformed
 
--- State 0: between two numbers. State 1: within a number.
-abbrev pub state_of : List ℕ → ℕ
-state_of [] = 0
-state_of (b ∷ bs) = 1
+-- The state after the bytes since the last separator, which are digits.
+abbrev pub state_of : List ℕ → State
+state_of [] = Between
+state_of (b ∷ bs) = Within (value (b ∷ bs))
 
 -- What a scanner and its list know of a text that has been read up to here, however it goes on: the numbers that have ended and the run
--- of digits since the last separator; or, in state 2, that it is malformed.
+-- of digits since the last separator; or that it is malformed.
 pub data Scanned (text list : List ℕ) (s : Scanner) : Type 0 where
-  readable : (run : List ℕ) → digits run ≡ true → s.value ≡ value run → s.value < limit → s.state ≡ state_of run → s.count ≤ length list
+  readable : (run : List ℕ) → digits run ≡ true → value run < limit → s.state ≡ state_of run → s.count ≤ length list
       → ((rest : List ℕ) → numbers (text ++ rest) ≡ (holds (take s.count list) then numbers_after run rest)) → Scanned text list s
-  unreadable : s.state ≡ 2 → ((rest : List ℕ) → within (length list) (numbers (text ++ rest)) ≡ malformed) → Scanned text list s
+  unreadable : s.state ≡ Bad → ((rest : List ℕ) → within (length list) (numbers (text ++ rest)) ≡ malformed) → Scanned text list s
 
 -- What a scanner and its list tell at the end of a text.
 pub record Finished (text list : List ℕ) (s : Scanner) : Type 0 where
-  pub bad : s.state ≡ 2 → within (length list) (numbers text) ≡ malformed
-  pub good : (s.state ≡ 2 → ⊥) → (s.count ≤ length list) × (numbers text ≡ holds (take s.count list))
+  pub bad : s.state ≡ Bad → within (length list) (numbers text) ≡ malformed
+  pub good : (s.state ≡ Bad → ⊥) → (s.count ≤ length list) × (numbers text ≡ holds (take s.count list))
 
 -- ---- what a call does, for any scanner
 
@@ -36,27 +38,41 @@ pub record Held : Type 0 where
 abbrev pub held : Scanner → List ℕ → Held
 held s l = record { scanner = s; list = l }
 
+abbrev pub between : (count : ℕ) → Scanner
+between count = record { count = count; state = Between }
+
+abbrev pub within_number : (count value : ℕ) → Scanner
+within_number count v = record { count = count; state = Within v }
+
 abbrev pub fresh : Scanner
-fresh = record { count = 0; value = 0; state = 0 }
+fresh = between 0
 
 abbrev pub bad : Scanner
-bad = record { count = 0; value = 0; state = 2 }
+bad = record { count = 0; state = Bad }
 
--- A byte other than a separator.
-unfoldable pub take_digit : ℕ → Scanner → Scanner
-take_digit b s =
-    if ltb s.state 2 && digit b && ltb (10 * s.value + (b - 48)) limit
-    then record { count = s.count; value = 10 * s.value + (b - 48); state = 1 }
-    else bad
+-- A byte other than a separator, after digits of value v.
+unfoldable pub longer : (count v b : ℕ) → Scanner
+longer count v b = if digit b && ltb (10 * v + (b - 48)) limit then within_number count (10 * v + (b - 48)) else bad
+
+unfoldable pub longer_in : State → (count b : ℕ) → Scanner
+longer_in Between count b = longer count 0 b
+longer_in (Within v) count b = longer count v b
+longer_in Bad count b = bad
+
+abbrev pub take_digit : ℕ → Scanner → Scanner
+take_digit b s = longer_in s.state s.count b
 
 -- The end of a number, if there is one in progress.
-unfoldable pub end_number : Held → Held
-end_number h =
-    if eqb h.scanner.state 1
-    then if ltb h.scanner.count (length h.list)
-    then held (record { count = h.scanner.count + 1; value = 0; state = 0 }) (set h.list h.scanner.count h.scanner.value)
+unfoldable pub end_in : State → Held → Held
+end_in Between h = h
+end_in (Within v) h =
+    if ltb h.scanner.count (length h.list)
+    then held (between (h.scanner.count + 1)) (set h.list h.scanner.count v)
     else held bad h.list
-    else h
+end_in Bad h = h
+
+abbrev pub end_number : Held → Held
+end_number h = end_in h.scanner.state h
 
 unfoldable pub take_byte : ℕ → Held → Held
 take_byte b h = if separator b then end_number h else held (take_digit b h.scanner) h.list

@@ -1,35 +1,44 @@
 // Texts of decimal numbers: a scanner that reads one in chunks, and a writer.
 #![tactic(auto)]
 
-ghost use Rattle.std.specs.Prelude.{◌≡◌, ℕ, ◌+◌, ◌%◌, List, [], length};
-ghost use Rattle.text.specs.Numbers.{separator};
-ghost use Rattle.text.specs.Scan.{fresh, held, take_digit, take_byte, Scanned, Scans, Finishes};
-ghost use Rattle.text.specs.Decimal.{decimal, Puts, Written};
+ghost use Rattle.std.specs.Prelude.{◌≡◌, ℕ, true, ◌+◌, ◌%◌, List, [], length};
+ghost use Rattle.text.specs.Numbers.{separator, digit};
+ghost use Rattle.text.specs.Scan.{fresh, held, longer, take_digit, take_byte, Scanned, Scans, Finishes};
+ghost use Rattle.text.specs.Decimal.{decimal, PutsIn, Written};
 
-use words::{long, low, wide};
+// What the next byte of a text goes on from.
+#[derive(Clone, Copy, PartialEq, Eq)]
+pub enum State {
+    // A separator, or the text's start.
+    Between,
+    // Digits of this value.
+    Within(u32),
+    // The text is malformed, or has more numbers than there is room for.
+    Bad,
+}
 
-// How far a text has been read: how many numbers have ended, and the value of the number in progress.
+// How far a text has been read: how many numbers have ended, and the number in progress.
 #[derive(Clone, Copy)]
 pub struct Scanner {
     pub count: usize,
-    pub value: u32,
-    pub state: u32,
+    pub state: State,
 }
 
+#[tactic(auto, unfolding(crate::specs::Numbers::digit))]
+fn is_digit(b: u8) -> bool
+    ensures { result ≡ digit b }
+{
+    b'0' <= b && b <= b'9'
+}
+
+#[tactic(auto, unfolding(crate::specs::Numbers::separator))]
 fn is_separator(b: u8) -> bool
     ensures { result ≡ separator b }
 {
-    b == 32 || b == 10
+    b == b' ' || b == b'\n'
 }
 
 impl Scanner {
-    pub const BETWEEN: u32 = 0;
-
-    pub const WITHIN: u32 = 1;
-
-    // The text is malformed, or has more numbers than there is room for.
-    pub const BAD: u32 = 2;
-
     // The largest number of a text.
     const MAX: u64 = 4294967295;
 
@@ -40,8 +49,7 @@ impl Scanner {
     {
         Scanner {
             count: 0,
-            value: 0,
-            state: Scanner::BETWEEN,
+            state: State::Between,
         }
     }
 
@@ -50,43 +58,50 @@ impl Scanner {
     {
         Scanner {
             count: 0,
-            value: 0,
-            state: Scanner::BAD,
+            state: State::Bad,
         }
     }
 
-    // After a byte that is no separator.
-    fn take_digit(self, b: u8) -> Scanner
-        ensures { result ≡ take_digit b self }
+    // After a digit, where the digits before it have a value.
+    fn longer(count: usize, value: u32, b: u8) -> Scanner
+        requires { digit b ≡ true }
+        ensures { result ≡ longer count value b }
     {
-        if Scanner::BAD <= self.state {
-            return Scanner::bad();
-        }
-        if b < 48 {
-            return Scanner::bad();
-        }
-        if 57 < b {
-            return Scanner::bad();
-        }
-        let value = 10 * long(self.value) + wide(b - 48);
+        let value = 10 * value as u64 + (b - b'0') as u64;
         if Scanner::MAX < value {
             return Scanner::bad();
         }
         Scanner {
-            count: self.count,
-            value: low(value),
-            state: Scanner::WITHIN,
+            count,
+            state: State::Within(value as u32),
+        }
+    }
+
+    // After a digit.
+    #[tactic(auto, unfolding(crate::specs::Scan::longer_in))]
+    fn take_digit(self, b: u8) -> Scanner
+        requires { digit b ≡ true }
+        ensures { result ≡ take_digit b self }
+    {
+        match self.state {
+            State::Within(value) => Scanner::longer(self.count, value, b),
+            State::Between => Scanner::longer(self.count, 0, b),
+            State::Bad => Scanner::bad(),
         }
     }
 }
 
+// Most bytes are digits, so that these are told first.
 fn take_byte(numbers: &mut [u32], s: Scanner, b: u8) -> Scanner
     ensures { held result numbers.new ≡ take_byte b (held s numbers.old) }
 {
+    if is_digit(b) {
+        return s.take_digit(b);
+    }
     if is_separator(b) {
         return finish(numbers, s);
     }
-    s.take_digit(b)
+    Scanner::bad()
 }
 
 // Takes the next bytes of a text; the numbers that end in them are stored.
@@ -94,8 +109,8 @@ pub fn scan(chunk: &[u8], numbers: &mut [u32], s: Scanner) -> Scanner
     ensures { Scans chunk.now s numbers.old result numbers.new }
 {
     let mut s = s;
-    for i in 0..chunk.len() {
-        s = take_byte(numbers, s, chunk[i]);
+    for b in chunk {
+        s = take_byte(numbers, s, *b);
     }
     s
 }
@@ -104,73 +119,81 @@ pub fn scan(chunk: &[u8], numbers: &mut [u32], s: Scanner) -> Scanner
 pub fn finish(numbers: &mut [u32], s: Scanner) -> Scanner
     ensures { Finishes s numbers.old result numbers.new }
 {
-    if s.state != Scanner::WITHIN {
+    let State::Within(value) = s.state else {
         return s;
-    }
-    let count = s.count;
-    if numbers.len() <= count {
+    };
+    if numbers.len() <= s.count {
         return Scanner::bad();
     }
-    numbers[count] = s.value;
+    numbers[s.count] = value;
     Scanner {
-        count: count + 1,
-        value: 0,
-        state: Scanner::BETWEEN,
+        count: s.count + 1,
+        state: State::Between,
     }
 }
 
-// Copies bytes to `out` from `at` on, if there is room for them, and answers the next free place.
-pub fn put_bytes(out: &mut [u8], at: usize, bytes: &[u8]) -> usize
-    ensures { Puts (length bytes.now) bytes.now out.old at out.new result }
-{
-    let n = bytes.len();
-    let room = out.len();
-    if room < at {
-        return at;
+// Bytes that are to be printed: they stand in `bytes` before `at`, the next free place. Numbers and words are put by methods and not by `write!`: no contract
+// tells what bytes a `Display` writes, and these do.
+#[derive(Drop)]
+pub struct Output<'a> {
+    pub bytes: &'a mut [u8],
+    pub at: usize,
+}
+
+impl<'a> Output<'a> {
+    // Nothing is to be printed.
+    pub fn new(bytes: &'a mut [u8]) -> Output<'a>
+        ensures same_bytes { result.bytes.ghost_name ≡ bytes.entry.ghost_name }
+        ensures value { result.bytes.now ≡ bytes.old }
+        ensures start { result.at ≡ 0 }
+    {
+        Output { bytes, at: 0 }
     }
-    if room - at < n {
-        return at;
+
+    // Puts some bytes at the next free place, if there is room for them.
+    pub fn put_bytes(&mut self, bytes: &[u8])
+        ensures { PutsIn (length bytes.now) bytes.now self.old self.new }
+    {
+        let room = self.bytes.len();
+        if room < self.at || room - self.at < bytes.len() {
+            return;
+        }
+        let end = self.at + bytes.len();
+        self.bytes[self.at..end].copy_from_slice(bytes);
+        self.at = end;
     }
-    for i in 0..n {
-        out[at + i] = bytes[i];
+
+    // Puts x in decimal, if there is room for 20 bytes.
+    pub fn put_number(&mut self, x: u64)
+        ensures { PutsIn 20 (decimal x) self.old self.new }
+    {
+        let room = self.bytes.len();
+        if room < self.at || room - self.at < 20 {
+            return;
+        }
+        let mut digits = [48u8; 20];
+        let start = write_digits(x, &mut digits);
+        self.put_bytes(&digits[start..]);
     }
-    at + n
 }
 
 fn last_digit(x: u64) -> u8
     ensures { result ≡ 48 + x % 10 }
 {
-    48 + (x % 10) as u8
+    b'0' + (x % 10) as u8
 }
 
 // Writes the digits of x to the end of `digits`, and answers where they start.
 fn write_digits(x: u64, digits: &mut [u8; 20]) -> usize
-    requires { length digits.old ≡ 20 }
     ensures { Written x digits.new result }
 {
     let mut y = x;
-    let mut i = 19;
-    digits[19] = last_digit(y);
-    while 10 <= y {
-        y = y / 10;
-        i -= 1;
+    for i in (0..20).rev() {
         digits[i] = last_digit(y);
+        y = y / 10;
+        if y == 0 {
+            return i;
+        }
     }
-    i
-}
-
-// Writes x in decimal to `out` from `at` on, if there is room for 20 bytes, and answers the next free place.
-pub fn put_number(out: &mut [u8], at: usize, x: u64) -> usize
-    ensures { Puts 20 (decimal x) out.old at out.new result }
-{
-    let room = out.len();
-    if room < at {
-        return at;
-    }
-    if room - at < 20 {
-        return at;
-    }
-    let mut digits = [48u8; 20];
-    let start = write_digits(x, &mut digits);
-    put_bytes(out, at, &digits[start..])
+    0
 }

@@ -9,8 +9,13 @@ use Rattle.text.specs.Decimal.{last_digits}
 use Rattle.stream.specs.Items.{item_bytes, bytes_of}
 use Rattle.lines.specs.Lines.{ending_line}
 use Rattle.machine.specs.declared.Cause.{Cause}
-use Rattle.machine.specs.declared.Explained.{Explained}
-use Rattle.machine.specs.declared.Explained.TheVariants.{Refused, Done, Abort, NoRoom}
+use Rattle.std.specs.Prelude.{Result, Ok, Err}
+use Rattle.layout.specs.declared.Refusal.{Refusal}
+use Rattle.layout.specs.declared.Fault.TheVariants.{Types}
+use Rattle.machine.specs.declared.Reason.{Reason}
+use Rattle.machine.specs.declared.Reason.TheVariants.{NoBounds, BeforeBase, PastEnd}
+use Rattle.commands.specs.declared.Ending.{Ending}
+use Rattle.commands.specs.declared.Ending.TheVariants.{Done, Abort, NoRoom}
 use Rattle.why.specs.Ascii.{ascii}
 use Rattle.why.specs.Owners.{register_with, owner_above, owner_of}
 use Rattle.why.specs.Told.{owner_text, kind_text, node_text, wanted_text, bounds_text, reason_text, cause_line, ended_line, not_aborted_lines, told_lines}
@@ -23,22 +28,22 @@ table = 0 ∷ 0 ∷ 0 ∷ 2 ∷ 2 ∷ 2 ∷ 4 ∷ 1 ∷ 0 ∷ 0 ∷ 2 ∷ 0 ∷ 
 abbrev registers : Words
 registers = 2 ∷ 1 ∷ 0 ∷ 0 ∷ 2 ∷ 8 ∷ 9 ∷ []
 
-abbrev cause : (node place words base end reason first : ℕ) → Cause
+abbrev cause : (node place words base end : ℕ) → Reason → ℕ → Cause
 cause n p k b e r f = record { node = n; place = p; words = k; base = b; end = e; reason = r; first = f }
 
-abbrev printed : Explained → List ℕ
+abbrev printed : Result (Ending Cause) Refusal → List ℕ
 printed e = bytes_of (told_lines table registers e)
 
 -- Bounds in a block, in a register, in a variable, and none; then the other endings.
 so_it_reads : map printed
-    (Abort 4 7 (cause 1 7 1 5 7 3 5)
-    ∷ Abort 0 5 (cause 2 2 2 3 5 2 3)
-    ∷ Abort 1 5 (cause 1 3 1 2 3 3 2)
-    ∷ Abort 1 5 (cause 2 4294967298 3 0 0 1 0)
-    ∷ Abort 3 9 (cause 3 6 4 5 9 3 5)
-    ∷ Done 5
-    ∷ NoRoom 2 7
-    ∷ Refused 8 29
+    (Ok (Abort 4 7 (cause 1 7 1 5 7 PastEnd 5))
+    ∷ Ok (Abort 0 5 (cause 2 2 2 3 5 BeforeBase 3))
+    ∷ Ok (Abort 1 5 (cause 1 3 1 2 3 PastEnd 2))
+    ∷ Ok (Abort 1 5 (cause 2 4294967298 3 0 0 NoBounds 0))
+    ∷ Ok (Abort 3 9 (cause 3 6 4 5 9 PastEnd 5))
+    ∷ Ok (Done 5)
+    ∷ Ok (NoRoom 2 7)
+    ∷ Err (record { fault = Types; place = 29 })
     ∷ [])
     ≡ map ascii
     ("abort 4 7\ncommand 4, node 1 (a follow): wanted 1 word at 7, past the end of the pointer's bounds [5, 7), in the block at 5\n"

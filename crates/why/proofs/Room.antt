@@ -15,8 +15,12 @@ use Rattle.semantics.specs.Table.{nodes, variables, count, item}
 use Rattle.semantics.specs.Run.{Answer, refusal, ending, done, abort, out_of_memory}
 use Rattle.semantics.specs.Explain.{Cause}
 use Rattle.machine.specs.Explain.{cause_told}
-use Rattle.machine.specs.declared.Explained.{Explained}
-use Rattle.machine.specs.declared.Explained.TheVariants.{Refused, Done, Abort, NoRoom}
+use Rattle.std.specs.Prelude.{Result, Ok, Err}
+use Rattle.layout.specs.Refusals.{number_of}
+use Rattle.layout.specs.declared.Refusal.{Refusal}
+use Rattle.machine.specs.declared.Cause as machine
+use Rattle.commands.specs.declared.Ending.{Ending}
+use Rattle.commands.specs.declared.Ending.TheVariants.{Done, Abort, NoRoom}
 use Rattle.why.specs.Ascii.{ascii}
 use Rattle.why.specs.Owners.{owner_of}
 use Rattle.why.specs.Told.{text, either, owner_text, kind_text, node_text, wanted_text, bounds_text, reason_text, cause_line, ended_line, not_aborted_lines, told_lines}
@@ -87,11 +91,11 @@ not_aborted_room : (a : Answer) → room_of (not_aborted_lines a) ≤ 100
 unfolding room_of item_room not_aborted_lines ascii
 not_aborted_room a = let both = room_both (ended_line a) (text "the run did not abort\n" ∷ []) in omega (arith, ended_room a)
 
-pub told_room : (t l : Words) (e : Explained) → room_of (told_lines t l e) ≤ 512
+pub told_room : (t l : Words) (e : Result (Ending machine.Cause) Refusal) → room_of (told_lines t l e) ≤ 512
 unfolding told_lines
-told_room t l (Refused n p) = omega (arith, ended_room (refusal n p))
-told_room t l (Done u) = omega (arith, not_aborted_room (ending done u))
-told_room t l (Abort c u x) =
+told_room t l (Err r) = omega (arith, ended_room (refusal (number_of r.fault) r.place))
+told_room t l (Ok (Done u)) = omega (arith, not_aborted_room (ending done u))
+told_room t l (Ok (Abort c u x)) =
     let both = room_both (ended_line (ending (abort c) u)) (cause_line t l c (cause_told x)) in
     omega (arith, ended_room (ending (abort c) u), cause_room (cause_told x) t l c)
-told_room t l (NoRoom c u) = omega (arith, not_aborted_room (ending (out_of_memory c) u))
+told_room t l (Ok (NoRoom c u)) = omega (arith, not_aborted_room (ending (out_of_memory c) u))

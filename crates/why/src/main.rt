@@ -3,24 +3,23 @@
 // passed and why, or that the run did not abort. A line that is no such case is answered by `input`.
 #![tactic(auto)]
 
-ghost use Rattle.std.specs.Prelude.{◌≤◌, ◌≡◌, [], ◌∷◌, length, if◌then◌else◌};
+ghost use Rattle.std.specs.Prelude.{◌+◌, ◌≤◌, ◌≡◌, [], ◌∷◌, length, if◌then◌else◌};
 ghost use Rattle.semantics.specs.Words.{word};
 ghost use Rattle.semantics.proofs.Registers.{Whole};
 ghost use Rattle.layout.specs.Layout.{LaidOut};
-ghost use Rattle.cases.specs.Cases.{Within};
-ghost use Rattle.machine.specs.Explain.{cause_told};
+ghost use Rattle.machine.specs.Explain.{reason_number, cause_told};
 ghost use Rattle.machine.specs.Run.{answer_of};
-ghost use Rattle.stream.specs.Items as items;
-ghost use Rattle.stream.specs.Items.{PutsItems};
+ghost use Rattle.stream.specs.Items.{Prints};
 ghost use Rattle.why.specs.Owners.{owner_above, owner_of};
-ghost use Rattle.why.specs.Told.{owner_text, kind_text, node_text, wanted_text, bounds_text, reason_text, cause_line, ended_line, not_aborted_lines, told_lines, Walkable, Tells};
+ghost use Rattle.why.specs.Told.{owner_text, kind_text, node_text, wanted_text, side_text, bounds_text, reason_text, cause_line, ended_line, not_aborted_lines, told_lines, Walkable, Tells};
 
-use cases::{Case, Line};
-use layout::{Parsed, Table, kind};
-use machine::{Answer, Cause, Explained};
-use stream::{Part, least, put_after};
-use text::put_bytes;
-use words::{index, long};
+use cases::{Case, Program, front};
+use commands::Ending;
+use layout::{Refusal, Table, kind};
+use machine::{Cause, Explained, Reason};
+use steps::Memory;
+use stream::put_after;
+use text::Output;
 
 // What bounds lie in: a variable, by its number; a register, by its number in the list and its variable; a block, by its first word.
 #[derive(Clone, Copy)]
@@ -36,12 +35,13 @@ fn owner_above(list: &[u32], first: usize, w: u32) -> Owner
     ensures { result ≡ owner_above first list.now w }
 {
     let count = list[0];
+    // By place, as the definition goes.
     let mut p = 1;
     let mut end = first;
     for i in 0..count {
-        let n = index(list[p + 1]);
+        let n = list[p + 1] as usize;
         end += n;
-        if index(w) < end {
+        if (w as usize) < end {
             return Owner::Register(i, list[p]);
         }
         p += 2 + n;
@@ -54,260 +54,186 @@ fn owner_of(variables: usize, list: &[u32], w: u32) -> Owner
     requires { (Whole list.now) × (variables ≤ 64) }
     ensures { result ≡ owner_of variables list.now w }
 {
-    if 1 <= w {
-        if index(w) <= variables {
-            return Owner::Variable(w - 1);
-        }
+    if 1 <= w && w as usize <= variables {
+        return Owner::Variable(w - 1);
     }
     owner_above(list, variables + 1, w)
 }
 
 // What the bounds lie in.
-fn put_owner(out: &mut [u8], at: usize, o: Owner) -> usize
-    ensures { PutsItems (owner_text o) out.old at out.new result }
+fn put_owner(out: &mut Output, o: Owner)
+    ensures { Prints (owner_text o) out.old out.new }
 {
     match o {
-        Owner::Variable(i) => put_after(out, at, b"variable ", long(i)),
+        Owner::Variable(i) => put_after(out, b"variable ", i as u64),
         Owner::Register(i, variable) => {
-            let at = put_after(out, at, b"register ", long(i));
-            put_after(out, at, b" of variable ", long(variable))
+            put_after(out, b"register ", i as u64);
+            put_after(out, b" of variable ", variable as u64);
         }
-        Owner::Block(w) => put_after(out, at, b"the block at ", long(w)),
+        Owner::Block(w) => put_after(out, b"the block at ", w as u64),
     }
-}
-
-// One of two texts.
-fn put_either(out: &mut [u8], at: usize, first: bool, a: &[u8], b: &[u8]) -> usize
-    ensures { PutsItems (items.word (if first then a.now else b.now) ∷ []) out.old at out.new result }
-{
-    if first {
-        return put_bytes(out, at, a);
-    }
-    put_bytes(out, at, b)
 }
 
 // What made the check: a copy, a field or a follow.
-fn put_kind(out: &mut [u8], at: usize, kind: u32) -> usize
-    ensures { PutsItems (kind_text kind) out.old at out.new result }
+fn put_kind(out: &mut Output, kind: u32)
+    ensures { Prints (kind_text kind) out.old out.new }
 {
-    if kind == kind::COPY {
-        return put_bytes(out, at, b" (a copy)");
+    match kind {
+        kind::COPY => out.put_bytes(b" (a copy)"),
+        kind::FIELD => out.put_bytes(b" (a field)"),
+        _ => out.put_bytes(b" (a follow)"),
     }
-    put_either(out, at, kind == kind::FIELD, b" (a field)", b" (a follow)")
 }
 
 // Which check it is.
-fn put_node(out: &mut [u8], at: usize, command: u32, node: u32, kind: u32) -> usize
-    ensures { PutsItems (node_text command node kind) out.old at out.new result }
+fn put_node(out: &mut Output, command: u32, node: u32, kind: u32)
+    ensures { Prints (node_text command node kind) out.old out.new }
 {
-    let at = put_after(out, at, b"command ", long(command));
-    let at = put_after(out, at, b", node ", long(node));
-    put_kind(out, at, kind)
+    put_after(out, b"command ", command as u64);
+    put_after(out, b", node ", node as u64);
+    put_kind(out, kind);
 }
 
 // The words that it wanted.
-fn put_wanted(out: &mut [u8], at: usize, x: Cause) -> usize
-    ensures { PutsItems (wanted_text (cause_told x)) out.old at out.new result }
+fn put_wanted(out: &mut Output, x: Cause)
+    ensures { Prints (wanted_text (cause_told x)) out.old out.new }
 {
-    let at = put_after(out, at, b": wanted ", long(x.words));
-    let at = put_either(out, at, x.words == 1, b" word at ", b" words at ");
-    text::put_number(out, at, x.place)
+    put_after(out, b": wanted ", x.words as u64);
+    if x.words == 1 {
+        return put_after(out, b" word at ", x.place);
+    }
+    put_after(out, b" words at ", x.place);
 }
 
-// On which side of the bounds these words are, for reason 2 or 3, and the bounds.
-fn put_bounds(out: &mut [u8], at: usize, x: Cause) -> usize
-    ensures { PutsItems (bounds_text (cause_told x)) out.old at out.new result }
+// On which side of the bounds these words are, where there are bounds.
+fn put_side(out: &mut Output, reason: Reason)
+    ensures { Prints (side_text (reason_number reason) ∷ []) out.old out.new }
 {
-    let at = put_either(
-        out,
-        at,
-        x.reason == 2,
-        b", before the base",
-        b", past the end",
-    );
-    let at = put_after(out, at, b" of the pointer's bounds [", long(x.base));
-    let at = put_after(out, at, b", ", long(x.end));
-    put_bytes(out, at, b"), in ")
+    if let Reason::BeforeBase = reason {
+        return out.put_bytes(b", before the base");
+    }
+    out.put_bytes(b", past the end");
+}
+
+// The same, and the bounds.
+fn put_bounds(out: &mut Output, x: Cause)
+    ensures { Prints (bounds_text (cause_told x)) out.old out.new }
+{
+    put_side(out, x.reason);
+    put_after(out, b" of the pointer's bounds [", x.base as u64);
+    put_after(out, b", ", x.end as u64);
+    out.put_bytes(b"), in ");
 }
 
 // Why the check was not passed.
-fn put_reason(out: &mut [u8], at: usize, variables: usize, list: &[u32], x: Cause) -> usize
+fn put_reason(out: &mut Output, variables: usize, list: &[u32], x: Cause)
     requires { (Whole list.now) × (variables ≤ 64) }
-    ensures { PutsItems (reason_text variables list.now (cause_told x)) out.old at out.new result }
+    ensures { Prints (reason_text variables list.now (cause_told x)) out.old out.new }
 {
-    if x.reason == 1 {
-        return put_bytes(out, at, b", but the pointer has no bounds");
+    if let Reason::NoBounds = x.reason {
+        return out.put_bytes(b", but the pointer has no bounds");
     }
-    let at = put_bounds(out, at, x);
-    put_owner(out, at, owner_of(variables, list, x.first))
+    put_bounds(out, x);
+    put_owner(out, owner_of(variables, list, x.first));
 }
 
 // Word i of a list, 0 past its end.
 fn word_at(list: &[u32], i: usize) -> u32
     ensures { result ≡ word list.now i }
 {
-    if i < list.len() { list[i] } else { 0 }
+    list.get(i).copied().unwrap_or(0)
 }
 
 // The line of an abort. The kind of the check's node stands in the table.
-fn put_cause(
-    out: &mut [u8],
-    at: usize,
-    t: &[u32],
-    l: Table,
-    list: &[u32],
-    command: u32,
-    x: Cause,
-) -> usize
-    requires { (LaidOut t.now l) × (Whole list.now) }
-    ensures { PutsItems (cause_line t.now list.now command (cause_told x)) out.old at out.new result }
+fn put_cause(out: &mut Output, program: Program, l: Table, command: u32, x: Cause)
+    requires { (LaidOut program.table.now l) × (Whole program.registers.now) }
+    ensures { Prints (cause_line program.entry.table.now program.entry.registers.now command (cause_told x)) out.old out.new }
 {
-    let nodes = l.nodes;
-    let variables = l.variables;
-    let kind = word_at(t, nodes.at + 3 * index(x.node));
-    let at = put_node(out, at, command, x.node, kind);
-    let at = put_wanted(out, at, x);
-    let at = put_reason(out, at, variables.count, list, x);
-    put_bytes(out, at, b"\n")
+    let kind = word_at(program.table, l.nodes.at + 3 * x.node as usize);
+    put_node(out, command, x.node, kind);
+    put_wanted(out, x);
+    put_reason(out, l.variables.count, program.registers, x);
+    out.put_bytes(b"\n");
 }
 
 // The line of an ending.
-fn put_ended(out: &mut [u8], a: Answer) -> usize
-    ensures { PutsItems (ended_line (answer_of a)) out.old 0 out.new result }
+fn put_ended<C>(out: &mut Output, a: &Result<Ending<C>, Refusal>)
+    ensures { Prints (ended_line (answer_of a.now)) out.old out.new }
 {
-    let at = lines::put_ending(out, 0, a);
-    put_bytes(out, at, b"\n")
+    lines::put_ending(out, a);
+    out.put_bytes(b"\n");
 }
 
 // The lines of a run that did not abort.
-fn put_not_aborted(out: &mut [u8], a: Answer) -> usize
-    ensures { PutsItems (not_aborted_lines (answer_of a)) out.old 0 out.new result }
+fn put_not_aborted(out: &mut Output, e: &Explained)
+    ensures { Prints (not_aborted_lines (answer_of e.now)) out.old out.new }
 {
-    let at = put_ended(out, a);
-    put_bytes(out, at, b"the run did not abort\n")
+    put_ended(out, e);
+    out.put_bytes(b"the run did not abort\n");
 }
 
 // All lines for a call.
-fn put_told(out: &mut [u8], t: &[u32], l: Table, list: &[u32], e: Explained) -> usize
-    requires { (LaidOut t.now l) × (Walkable list.now e) }
-    ensures { PutsItems (told_lines t.now list.now e) out.old 0 out.new result }
+fn put_told(out: &mut Output, program: Program, l: Table, e: Explained)
+    requires { (LaidOut program.table.now l) × (Walkable program.registers.now e) }
+    ensures { Prints (told_lines program.entry.table.now program.entry.registers.now e) out.old out.new }
 {
     match e {
-        Explained::Refused(number, place) => put_ended(out, Answer::Refused(number, place)),
-        Explained::Done(unused) => put_not_aborted(out, Answer::Done(unused)),
-        Explained::Abort(command, unused, x) => {
-            let at = put_ended(out, Answer::Abort(command, unused));
-            put_cause(out, at, t, l, list, command, x)
+        Err(_) => put_ended(out, &e),
+        Ok(Ending::Abort(command, _, x)) => {
+            put_ended(out, &e);
+            put_cause(out, program, l, command, x);
         }
-        Explained::NoRoom(command, unused) => put_not_aborted(out, Answer::NoRoom(command, unused)),
+        Ok(Ending::Done(_)) => put_not_aborted(out, &e),
+        Ok(Ending::NoRoom(_, _)) => put_not_aborted(out, &e),
     }
 }
 
-// Runs and explains a table, and puts what a person is told of that at the front of `out`. The check of a table begins with its sections, so what
-// it refuses of them is the call's refusal.
-fn tell(
-    t: &[u32],
-    inputs: &[u32],
-    registers: &[u32],
-    values: &mut [u32],
-    bases: &mut [u32],
-    ends: &mut [u32],
-    out: &mut [u8],
-) -> usize
-    requires { 512 ≤ length out.old }
-    ensures { Tells t.now inputs.now registers.now values.old bases.old ends.old out.old values.new bases.new ends.new out.new result }
+// Room for the longest answer.
+const ROOM: usize = 512;
+
+// Runs and explains a program, and puts what a person is told of that. The check of a table begins with its sections, so what it refuses of them is
+// the call's refusal.
+fn tell(program: Program, memory: &mut Memory, out: &mut Output)
+    requires { out.old.at + 512 ≤ length out.old.bytes.now }
+    ensures { Tells program.entry memory.old out.old memory.new out.new }
 {
-    match Table::parse(t) {
-        Parsed::Is(l) => {
-            let e = machine::explain(t, inputs, registers, values, bases, ends);
-            put_told(out, t, l, registers, e)
+    match Table::parse(program.table) {
+        Ok(l) => {
+            let e = machine::explain(
+                program.table,
+                program.inputs,
+                program.registers,
+                memory.values,
+                memory.bases,
+                memory.ends,
+            );
+            put_told(out, program, l, e);
         }
-        Parsed::Refused(number, place) => put_ended(out, Answer::Refused(number, place)),
+        Err(r) => put_ended::<()>(out, &Err(r)),
     }
 }
 
-// Tells of the run that a case asks for.
-fn tell_case(
-    numbers: &[u32],
-    list: usize,
-    from: usize,
-    values: &mut [u32],
-    bases: &mut [u32],
-    ends: &mut [u32],
-    out: &mut [u8],
-) -> usize
-    requires { (Within numbers.now list from) × (512 ≤ length out.old) }
+// Tells of the run that a case asks for, in the words that it lends.
+fn tell_case(program: Program, memory: &mut Memory, out: &mut Output)
+    requires { out.old.at + 512 ≤ length out.old.bytes.now }
 {
-    // A case has no longer lists than the program, so nothing is cut off: `least` stands for the proof of that.
-    let v = least(index(numbers[2]), values.len());
-    let b = least(index(numbers[3]), bases.len());
-    let e = least(index(numbers[4]), ends.len());
-    let inputs_end = list - 1;
-    let list_end = from - 1;
-    tell(
-        &numbers[from..],
-        &numbers[7..inputs_end],
-        &numbers[list..list_end],
-        &mut values[0..v],
-        &mut bases[0..b],
-        &mut ends[0..e],
-        out,
-    )
+    let mut lent = Memory {
+        values: front(memory.values, program.values),
+        bases: front(memory.bases, program.bases),
+        ends: front(memory.ends, program.ends),
+    };
+    tell(program, &mut lent, out);
 }
 
-fn answer_numbers(
-    numbers: &[u32],
-    values: &mut [u32],
-    bases: &mut [u32],
-    ends: &mut [u32],
-    out: &mut [u8],
-) -> usize
-    requires { 512 ≤ length out.old }
-{
+// Answers a line that has these numbers.
+fn answer_line(rt: HostRuntime, numbers: &[u32], memory: &mut Memory) {
+    let mut bytes = [0u8; ROOM];
+    let mut out = Output::new(&mut bytes);
     match Case::of(numbers) {
-        Case::Explain(list, from) => tell_case(numbers, list, from, values, bases, ends, out),
-        _ => put_bytes(out, 0, b"input\n"),
+        Some(Case::Explain(program)) => tell_case(program, memory, &mut out),
+        _ => out.put_bytes(b"input\n"),
     }
-}
-
-fn answer_line(
-    line: Line,
-    numbers: &[u32],
-    values: &mut [u32],
-    bases: &mut [u32],
-    ends: &mut [u32],
-    out: &mut [u8],
-) -> usize
-    requires { (line.count ≤ length numbers.now) × (512 ≤ length out.old) }
-{
-    if !line.found {
-        return 0;
-    }
-    let count = line.count;
-    answer_numbers(&numbers[0..count], values, bases, ends, out)
-}
-
-// Answers every line. A proved loop has to end, so this one counts its turns down from a number that no run uses up.
-fn answer_all(
-    rt: HostRuntime,
-    buffer: &mut [u8],
-    numbers: &mut [u32],
-    values: &mut [u32],
-    bases: &mut [u32],
-    ends: &mut [u32],
-    out: &mut [u8],
-)
-    requires { 512 ≤ length out.old }
-{
-    let mut part = Part::new();
-    let mut turns = u64::MAX;
-    while turns > 0 && part.state != Part::LAST {
-        let line = cases::next_line(rt, buffer, numbers, part);
-        part = line.part;
-        let n = answer_line(line, numbers, values, bases, ends, out);
-        stream::flush(rt, out, n);
-        turns -= 1;
-    }
+    stream::flush(rt, &mut out);
 }
 
 fn main(rt: HostRuntime) {
@@ -316,15 +242,15 @@ fn main(rt: HostRuntime) {
     let mut values = [0u32; Case::WORDS];
     let mut bases = [0u32; Case::WORDS];
     let mut ends = [0u32; Case::WORDS];
-    // Room for the longest answer.
-    let mut out = [0u8; 512];
-    answer_all(
+    let mut memory = Memory {
+        values: &mut values,
+        bases: &mut bases,
+        ends: &mut ends,
+    };
+    cases::for_each_line(
         rt,
         &mut buffer,
         &mut numbers,
-        &mut values,
-        &mut bases,
-        &mut ends,
-        &mut out,
+        |numbers| answer_line(rt, numbers, &mut memory),
     );
 }

@@ -1,3 +1,2 @@
 -- Laws that the functions' proofs cite.
 pub mod Lists
-pub mod Columns

@@ -1,36 +1,12 @@
--- Lists that a loop fills: with 0, or from some index on with another list; and lists of which a part is stored or cleared.
+-- Lists that a loop fills from some index on with another list; and lists of which a part is stored or cleared.
 use Prim.Native.Nat.{ℕ, suc, ◌+◌, ◌-◌, ◌≤◌, ◌<◌}
 use mathlib.Core.Path.{◌≡◌, refl, sym, ap, ◌∙◌}
 use mathlib.Core.List.{List, [], ◌∷◌, ◌++◌, append_assoc, append-nil}
 use native.Mathlib.Omega.{arith}
-use native.Mathlib.Decide.{ℕ_discrete}
 use native.Mathlib.Numerals.{add-one}
 use native.Mathlib.Nat.{add-zero, add-suc, suc-add}
-use lib.ListN.{length, get_or, take, drop, set, replicate, length-set, length-append, length-drop, take-append-drop, length-replicate, get_or-replicate}
-use lib.Seq.{sets, ext_get_or, get_or-set_same, get_or-set_other, take-suc, length-take-le, take_all, take-length, drop-length, take_at, get_or-drop, drop-drop, length-sets, sets-eq}
-
--- The list is as long as l₀ and 0 below i.
-pub record Cleared (l₀ l : List ℕ) (i : ℕ) : Type 0 where
-  pub same : length l ≡ length l₀
-  pub zeros : (k : ℕ) → k < i → get_or l k 0 ≡ 0
-
-pub cleared_none : (l : List ℕ) → Cleared l l 0
-cleared_none l = record { same = refl; zeros = λ k h. absurd (omega arith) }
-
-pub cleared_more : {l₀ l : List ℕ} {i : ℕ} → Cleared l₀ l i → i < length l → Cleared l₀ (set l i 0) (i + 1)
-cleared_more {l = l} {i = i} h inside =
-    record { same = length-set l i 0 ∙ h.same; zeros = λ k less. go k less (ℕ_discrete k i) }
-  where
-    go : (k : ℕ) → k < i + 1 → Dec (k ≡ i) → get_or (set l i 0) k 0 ≡ 0
-    go k less (yes e) = rw e (get_or-set_same l i 0 0 inside)
-    go k less (no n) = get_or-set_other l i k 0 0 n ∙ h.zeros k (omega arith)
-
-pub cleared_all : {l₀ l : List ℕ} {i : ℕ} → Cleared l₀ l i → length l₀ ≤ i → l ≡ replicate (length l₀) 0
-cleared_all {l₀} {l} h all =
-    ext_get_or 0 l (replicate (length l₀) 0) (h.same ∙ sym (length-replicate (length l₀) 0))
-    (λ k inside.
-    let less : k < length l₀ = omega (arith, h.same) in
-    h.zeros k (omega arith) ∙ sym (get_or-replicate (length l₀) k 0 0 less))
+use lib.ListN.{length, get_or, take, drop, set, replicate, length-append, length-drop, take-append-drop, length-replicate, get_or-replicate}
+use lib.Seq.{sets, ext_get_or, take-suc, length-take-le, take_all, take-length, drop-length, take_at, get_or-drop, drop-drop, length-sets, sets-eq}
 
 -- One more store at the end of a run of stores.
 sets_more : (l : List ℕ) (i : ℕ) (xs : List ℕ) (x : ℕ) → sets l i (xs ++ (x ∷ [])) ≡ set (sets l i xs) (i + length xs) x

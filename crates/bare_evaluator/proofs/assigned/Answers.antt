@@ -1,5 +1,5 @@
 -- A variable's word is told with no more work.
-use Rattle.std.proofs.Common.{◌+◌, refl, ap, arith}
+use Rattle.std.proofs.Common.{refl, arith}
 use Rattle.lookups.proofs.Ready.{item_at, note_at}
 use Rattle.lookups.proofs.Shortcuts.{is_variable}
 use Rattle.bare_evaluator.proofs.Evaluation.{variable_small, variable_answer}
@@ -11,7 +11,7 @@ noted-requires c = note_at c.requires
 pub item-requires : goal.item-requires
 item-requires c = item_at c.requires 1 (omega arith)
 
-pub returns-then-of_variable : goal.returns-then-of_variable
-returns-then-of_variable c =
+pub returns-then-of_variable-clause-answered : goal.returns-then-of_variable-clause-answered
+returns-then-of_variable-clause-answered c =
     let q = is_variable c.noted.ensures c.if-of_variable.true c.of_variable.ensures in
-    (variable_answer c.item.ensures q (ap (λ x. x + 1) c.long.ensures.0) (omega (arith, variable_small c.requires q c.item.ensures, c.long.ensures.0)), refl)
+    variable_answer c.item.ensures q refl (omega (arith, variable_small c.requires q c.item.ensures))

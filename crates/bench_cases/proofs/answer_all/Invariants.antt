@@ -1,9 +1,6 @@
--- The measure is the number of turns that are left.
+-- The buffer keeps its length.
 use Rattle.std.proofs.Common.{◌≡◌, length}
 use Rattle.bench_cases.proofs.answer_all.Given as goal
 
-abbrev pub invariant-loop-turns : goal.invariant-loop-turns
-invariant-loop-turns l = length l.buffer ≡ length l.initial.buffer
-
-abbrev pub decreases-loop-turns : goal.decreases-loop-turns
-decreases-loop-turns l = l.turns
+abbrev pub invariant-loop : goal.invariant-loop
+invariant-loop l = length l.buffer ≡ length l.initial.buffer

@@ -1,5 +1,5 @@
 use Rattle.cases.proofs.Lines.{before_line}
 use Rattle.cases.proofs.next_line.Goals as goal
 
-pub take_part-p-requires : goal.take_part-p-requires
-take_part-p-requires c = before_line (c.new.ensures.meets _)
+pub loop-init : goal.loop-init
+loop-init c = before_line (c.new.ensures.meets _)

@@ -1,33 +1,35 @@
--- `commands::command` meets its contract. Assumes nothing.
-use Rattle.std.proofs.Common.{refl, ◌∙◌}
+-- Where the place or the value ended, that is passed on; else the value is stored at the place.
+use Rattle.std.proofs.Common.{arith}
 use Rattle.lookups.proofs.Lookups.{note_inside}
-use Rattle.commands.proofs.Commands.{place_first, place_ended, value_next, value_ended, store_inside, command_done}
+use Rattle.commands.proofs.Commands.{below, place_first, place_ended, value_next, value_ended, store_inside, command_done}
 use Rattle.commands.proofs.command.Goals as goal
 
-pub assigned-at-requires : goal.assigned-at-requires
-assigned-at-requires c = place_first c.requires
+pub assigned-requires : goal.assigned-requires
+assigned-requires c = place_first c.requires
 
-pub returns-then-at-ge-FAILED : goal.returns-then-at-ge-FAILED
-returns-then-at-ge-FAILED c = (place_ended c.assigned-at.ensures.0 c.if-at-ge-FAILED.true, c.assigned-at.ensures.1)
+pub returns-in_err-at-clause-answered : goal.returns-in_err-at-clause-answered
+returns-in_err-at-clause-answered c = place_ended c.assigned.ensures.answered c.in_err-at.ensures c.from_residual.ensures.1
 
 pub bounds_of-bounds-requires : goal.bounds_of-bounds-requires
 bounds_of-bounds-requires c = let k = c.requires.nodes_are in note_inside k.lists_of k.value_node
 
-pub result-r-requires : goal.result-r-requires
-result-r-requires c = value_next c.assigned-at.ensures.0 c.if-at-ge-FAILED.false c.requires
+pub result-requires : goal.result-requires
+result-requires c = value_next c.assigned.ensures.answered (below c.in_ok-at.ensures).0 c.requires
 
-pub returns-then-r-ge-FAILED : goal.returns-then-r-ge-FAILED
-returns-then-r-ge-FAILED c =
-    (value_ended c.assigned-at.ensures.0 c.if-at-ge-FAILED.false c.result-r.ensures.0 c.if-r-ge-FAILED.true, c.result-r.ensures.1 ∙ c.assigned-at.ensures.1)
+pub returns-in_err-r-clause-answered : goal.returns-in_err-r-clause-answered
+returns-in_err-r-clause-answered c =
+    value_ended c.assigned.ensures.answered (below c.in_ok-at.ensures).0 c.result.ensures.answered c.in_err-r.ensures c.from_residual-in_err-r.ensures.1
+
+pub overflow_cast-r : goal.overflow_cast-r
+overflow_cast-r c = let r = below c.in_ok-r.ensures in omega (arith, r.0, r.1)
 
 pub store-requires : goal.store-requires
 store-requires c =
-    rw (c.index.ensures.0, c.low.ensures)
-    (store_inside c.assigned-at.ensures.0 c.if-at-ge-FAILED.false c.result-r.ensures.0 c.requires c.if-r-ge-FAILED.false)
+    let at = below c.in_ok-at.ensures in
+    rw at.1 (store_inside c.assigned.ensures.answered at.0 c.result.ensures.answered c.requires (below c.in_ok-r.ensures).0)
 
-pub returns : goal.returns
-returns c = (
-  command_done c.assigned-at.ensures.0 c.if-at-ge-FAILED.false c.result-r.ensures.0 c.if-r-ge-FAILED.false c.bounds_of-bounds.ensures refl refl
-      (rw (c.index.ensures.0, c.low.ensures, c.low-2.ensures) at c.store.ensures.0),
-  c.store.ensures.1 ∙ c.result-r.ensures.1 ∙ c.assigned-at.ensures.1,
-)
+pub returns-clause-answered : goal.returns-clause-answered
+returns-clause-answered c =
+    let at = below c.in_ok-at.ensures in
+    let r = below c.in_ok-r.ensures in
+    command_done c.assigned.ensures.answered at.0 c.result.ensures.answered r.0 c.bounds_of-bounds.ensures (rw (at.1, r.1) at c.store.ensures.stored)

@@ -1,14 +1,10 @@
--- `commands::execute` meets its contract. Assumes nothing.
-use Rattle.std.proofs.Common.{refl, ◌∙◌, arith}
+-- The words of command c stand in the table, and what it answers takes the run one command further or ends it.
+use Rattle.std.proofs.Common.{refl, arith, rules}
 use Rattle.commands.proofs.Execution.{none_yet, all_done, command_words, command_ready, command_goes_on, command_aborts, command_full}
 use Rattle.commands.proofs.execute.Goals as goal
 
 pub loop-c-init : goal.loop-c-init
-loop-c-init c = (omega arith, none_yet _ _ c.requires.from c.requires.upto, refl, refl)
-
--- The words of command c stand in the table.
-pub overflow_mul-k : goal.overflow_mul-k
-overflow_mul-k c = omega (arith, (command_words c.requires c.loop-c.c (omega arith)).2)
+loop-c-init c = record { done = none_yet _ c.requires.from c.requires.upto (search rules); same_lists = search rules }
 
 pub overflow_add-k : goal.overflow_add-k
 overflow_add-k c = omega (arith, (command_words c.requires c.loop-c.c (omega arith)).2)
@@ -28,45 +24,24 @@ offset_bounds-t-k-in-loop-c c = omega (arith, (command_words c.requires c.loop-c
 pub bounds-t-k-in-loop-c : goal.bounds-t-k-in-loop-c
 bounds-t-k-in-loop-c c = omega (arith, (command_words c.requires c.loop-c.c (omega arith)).2)
 
-pub command-r-requires : goal.command-r-requires
-command-r-requires c =
-    let inv = c.loop-c.invariant in
-    command_ready c.requires c.loop-c.s inv.1 inv.2 (omega arith) (cc (c.index.ensures.0, c.index-p.ensures.0)) (cc (c.index.ensures.0, c.index-v.ensures.0))
+pub command-requires : goal.command-requires
+command-requires c = command_ready c.requires c.loop-c.s c.loop-c.invariant.done c.loop-c-test.true refl refl
 
-pub bounds-s-2 : goal.bounds-s-2
-bounds-s-2 c = omega (arith, c.command-r.ensures.0.room)
+pub returns-in-Err-Failed : goal.returns-in-Err-Failed
+returns-in-Err-Failed c =
+    command_aborts c.requires c.loop-c.s c.loop-c.invariant.done c.loop-c-test.true refl refl (rw c.in-Err-Failed.field-0-is at c.in-Err-Failed.ensures.answered) refl c.failure.ensures
+    (record { values = search rules; bases = search rules; ends = search rules })
 
-pub failure-requires : goal.failure-requires
-failure-requires c = c.command-r.ensures.0.room
-
-pub returns-then-r-eq-FAILED : goal.returns-then-r-eq-FAILED
-returns-then-r-eq-FAILED c =
-    let inv = c.loop-c.invariant in (
-      command_aborts c.requires c.loop-c.s inv.1 inv.2 (omega arith) (cc (c.index.ensures.0, c.index-p.ensures.0)) (cc (c.index.ensures.0, c.index-v.ensures.0)) c.command-r.ensures.0 c.if-r-eq-FAILED.true c.failure.ensures,
-      c.command-r.ensures.1 ∙ inv.3,
-    )
-
-pub bounds-s-2-then-r-gt-FAILED : goal.bounds-s-2-then-r-gt-FAILED
-bounds-s-2-then-r-gt-FAILED c = omega (arith, c.command-r.ensures.0.room)
-
-pub returns-then-r-gt-FAILED : goal.returns-then-r-gt-FAILED
-returns-then-r-gt-FAILED c =
-    let inv = c.loop-c.invariant in (
-      command_full c.requires c.loop-c.s inv.1 inv.2 (omega arith) (cc (c.index.ensures.0, c.index-p.ensures.0)) (cc (c.index.ensures.0, c.index-v.ensures.0)) c.command-r.ensures.0 c.if-r-gt-FAILED.true,
-      c.command-r.ensures.1 ∙ inv.3,
-    )
+pub returns-in-Err-NoRoom : goal.returns-in-Err-NoRoom
+returns-in-Err-NoRoom c =
+    command_full c.requires c.loop-c.s c.loop-c.invariant.done c.loop-c-test.true refl refl (rw c.in-Err-NoRoom.field-0-is at c.in-Err-NoRoom.ensures.answered) (omega arith)
+    (record { values = search rules; bases = search rules; ends = search rules })
 
 pub loop-c-preserved : goal.loop-c-preserved
-loop-c-preserved c =
-    let inv = c.loop-c.invariant in (
-      omega arith,
-      command_goes_on c.requires c.loop-c.s inv.1 inv.2 (omega arith) (cc (c.index.ensures.0, c.index-p.ensures.0)) (cc (c.index.ensures.0, c.index-v.ensures.0)) c.command-r.ensures.0 (omega arith),
-      c.command-r.ensures.0.room,
-      c.command-r.ensures.1 ∙ inv.3,
-    )
-
-pub bounds-s-2-2 : goal.bounds-s-2-2
-bounds-s-2-2 c = omega (arith, c.loop-c.invariant)
+loop-c-preserved c = record {
+  done = command_goes_on c.requires c.loop-c.s c.loop-c.invariant.done c.loop-c-test.true refl refl c.in-Ok.ensures.answered (omega arith);
+  same_lists = search rules;
+}
 
 pub returns : goal.returns
-returns c = (all_done c.loop-c.invariant.1 (omega (arith, c.requires.all)), c.loop-c.invariant.3)
+returns c = all_done c.loop-c.invariant.done (omega (arith, c.requires.all)) (record { values = search rules; bases = search rules; ends = search rules })

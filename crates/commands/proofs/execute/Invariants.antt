@@ -1,13 +1,11 @@
 -- The loop's invariant: the commands below c are done as the rules say.
-use Rattle.std.proofs.Common.{◌≤◌, ◌-◌, ◌≡◌, length, map}
-use Rattle.steps.specs.Answers.{slots}
+use Rattle.steps.specs.Answers.{SameLists}
+use Rattle.commands.specs.Execution.{lists}
 use Rattle.commands.proofs.Execution.{SoFar}
 use Rattle.commands.proofs.execute.Given as goal
 
 abbrev pub invariant-loop-c : goal.invariant-loop-c
-invariant-loop-c l =
-    (l.c ≤ l.total) × SoFar l.t (map (λ x. x.now) l.initial.m) l.first l.watched (map (λ x. x.now) l.m) l.s l.c × (length l.s ≡ slots)
-    × (map (λ x. x.ghost_name) l.m ≡ map (λ x. x.ghost_name) l.initial.m)
-
-abbrev pub decreases-loop-c : goal.decreases-loop-c
-decreases-loop-c l = l.total - l.c
+invariant-loop-c l = record {
+  done : SoFar l.t (lists l.initial.m.values.now l.initial.m.bases.now l.initial.m.ends.now) l.first l.watched l.m l.s l.c;
+  same_lists : SameLists l.initial.m l.m;
+}

@@ -1,29 +1,17 @@
-use Rattle.std.proofs.Common.{◌∙◌, arith, sym}
-use Rattle.console.proofs.Calls.{room, too_short, answers_run, answers_input}
+use Rattle.std.proofs.Common.{◌∙◌, arith, sym, rules, ap, length}
+use Rattle.console.proofs.Calls.{room, too_short, answers}
 use Rattle.console.proofs.answer.Goals as goal
 
-pub returns-then-not-has_room : goal.returns-then-not-has_room
-returns-then-not-has_room c = too_short _ _ _ _ (sym c.has_room.ensures ∙ c.if-not-has_room.true)
+pub returns-then-not-has_room-clause-answers : goal.returns-then-not-has_room-clause-answers
+returns-then-not-has_room-clause-answers c = too_short _ _ _ _ (sym c.has_room.ensures ∙ c.if-not-has_room.true)
 
-pub run_request-n-requires-clause-le_from : goal.run_request-n-requires-clause-le_from
-run_request-n-requires-clause-le_from c =
+pub print_request-requires : goal.print_request-requires
+print_request-requires c =
     let has = room _ _ _ _ (sym c.has_room.ensures ∙ c.if-not-has_room.false) in
-    let parts = c.of.ensures.parts _ _ c.in-Run.is in
-    (parts.two, parts.upto, parts.count, parts.most, has.3)
+    let same = ap length c.new-out.ensures.value in
+    (record { values = has.0; bases = has.1; ends = has.2 }, omega arith, c.new-out.ensures.start)
 
-pub run_request-n-requires-clause-memory_in_bounds : goal.run_request-n-requires-clause-memory_in_bounds
-run_request-n-requires-clause-memory_in_bounds c =
-    let has = room _ _ _ _ (sym c.has_room.ensures ∙ c.if-not-has_room.false) in
-    let parts = c.of.ensures.parts _ _ c.in-Run.is in
-    let most = parts.most in
-    (omega arith, omega arith, omega arith)
-
-pub returns-in-Run : goal.returns-in-Run
-returns-in-Run c =
-    answers_run _ _ _ _ (sym c.has_room.ensures ∙ c.if-not-has_room.false) c.finish-s.ensures _ c.of.ensures c.in-Run.is
-    c.finish-s.auto.numbers c.run_request-n.ensures
-
-pub returns-in-Malformed : goal.returns-in-Malformed
-returns-in-Malformed c =
-    answers_input _ _ _ _ (sym c.has_room.ensures ∙ c.if-not-has_room.false) c.finish-s.ensures _ c.of.ensures c.in-Malformed.is
-    c.finish-s.auto.numbers c.put_bytes-n.ensures
+pub returns-clause-answers : goal.returns-clause-answers
+returns-clause-answers c =
+    answers _ _ _ _ (sym c.has_room.ensures ∙ c.if-not-has_room.false) c.finish-s.ensures c.finish-s.auto.numbers c.print_request.ensures.left
+    c.print_request.ensures.printed c.new-out.ensures.value (search rules)

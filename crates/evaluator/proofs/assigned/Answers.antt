@@ -11,9 +11,9 @@ noted-requires c = note_at c.requires
 pub item-requires : goal.item-requires
 item-requires c = item_at c.requires 1 (omega arith)
 
-pub returns-then-of_variable : goal.returns-then-of_variable
-returns-then-of_variable c =
-    (assigned_variable c.item.ensures c.requires (is_variable c.noted.ensures c.if-of_variable.true c.of_variable.ensures) c.long.ensures.0 refl, refl)
+pub returns-then-of_variable-clause-answered : goal.returns-then-of_variable-clause-answered
+returns-then-of_variable-clause-answered c =
+    assigned_variable c.item.ensures c.requires (is_variable c.noted.ensures c.if-of_variable.true c.of_variable.ensures) refl refl
 
-pub returns : goal.returns
-returns c = (assigned_place c.place.ensures.0, c.place.ensures.1)
+pub returns-clause-answered : goal.returns-clause-answered
+returns-clause-answered c = assigned_place c.place.ensures.answered

@@ -1,91 +1,105 @@
--- The entries before i pass and are noted; entry i has an unknown target, one seen before, or is noted.
-use Rattle.std.proofs.Common.{ℕ, ◌≡◌, ◌≤◌, ◌<◌, true, refl, sym, ap, ◌∙◌, arith, length-set}
+-- The entries before i pass and are noted; what is required of entry i is its part of the definition.
+use Rattle.std.proofs.Common.{ℕ, ◌≡◌, ◌≤◌, ◌<◌, ◌+◌, get_or, [], Bool, true, refl, sym, ap, ◌∙◌, arith, length-set}
+use borrow.Author.Tests.{eqb-true}
 use Rattle.semantics.specs.Words.{Words, word}
 use Rattle.semantics.specs.Table.{count, known_target}
 use Rattle.semantics.specs.Check.{each}
 use Rattle.layout.specs.Layout.{Stands}
 use Rattle.layout.specs.Types.{slot, mark_below, Marks, marked}
 use Rattle.layout.specs.declared.Section.{Section}
-use Rattle.layout.proofs.Laws.{refusal, each_more, each_refuses, each_all}
-use Rattle.layout.proofs.Types.{target_at, pointer_unknown, pointer_again, pointer_new, slot_below, marks_none, marks_more, marked_more, marked_to, marked_all}
+use Rattle.layout.proofs.Laws.{refusal_on, each_more, each_refuses, or_else_pass, or_else_refuse, entry_word}
+use Rattle.layout.proofs.Types.{pointer_by, slot_below, marks_none, marks_more, marked_more, marked_to, marked_all}
 use Rattle.layout.proofs.check_pointers.Goals as goal
 
 -- A known target's slot is in the list.
-below : {t : Words} {l : Section} → Stands t 2 l → (records x k : ℕ) → records ≡ count t 0 → records ≤ 32 → true ≡ known_target t x → k ≡ slot x → k < 98
-below {t} h records x k r few known e = omega (arith, slot_below t (omega arith) (omega (arith, h.total, h.limited)) x (sym known))
+below : {t : Words} {l : Section} → Stands t 2 l → (records x k : ℕ) {known : Bool} → records ≡ count t 0 → records ≤ 32 → known ≡ true → known ≡ known_target t x → k ≡ slot x → k < 98
+below {t} h records x k r few known test e = omega (arith, slot_below t (omega arith) (omega (arith, h.total, h.limited)) x (sym test ∙ known))
 
 -- And has the target's mark there.
-mark : {t entry : Words} {i : ℕ} → Marks t entry i → (x k : ℕ) → true ≡ known_target t x → k ≡ slot x → word entry k ≡ mark_below t i x
-mark {entry = entry} marks x k known e = ap (word entry) e ∙ marks.mark_is x (sym known)
+mark : {t entry : Words} {i : ℕ} → Marks t entry i → (x k : ℕ) {known : Bool} → known ≡ true → known ≡ known_target t x → k ≡ slot x → word entry k ≡ mark_below t i x
+mark {entry = entry} marks x k known test e = ap (word entry) e ∙ marks.mark_is x (sym test ∙ known)
 
 pub loop-i-init : goal.loop-i-init
 unfolding each marked
-loop-i-init c = (refl, refl, c.told-entry, marks_none _ _ c.requires.3, refl)
+loop-i-init c = record { pass = refl; room = c.told-entry; marks = marks_none _ _ c.requires.3; list = refl }
 
-pub returns-then-not-known_target-clause-found : goal.returns-then-not-known_target-clause-found
-returns-then-not-known_target-clause-found c =
+pub returns-in_err-require-clause-found : goal.returns-in_err-require-clause-found
+returns-in_err-require-clause-found c =
     let h = c.requires.0 in
-    refusal (each_refuses _ _ c.loop-i.invariant.0 _ (omega arith) (pointer_unknown h _ (c.if-not-known_target.ensures _ c.requires.1 h.total)))
+    let i = c.loop-i.i in
+    let fault = pointer_by h i (c.known_target-known.ensures _ c.requires.1 h.total) (entry_word h i 0 _ refl (c.entries-target-items.ensures.same i 0 (omega arith) (omega arith))) refl in
+    refusal_on c.from_residual.result _ c.from_residual.ensures.1
+    (each_refuses _ i c.loop-i.invariant.pass _ (omega arith) (sym fault ∙ or_else_refuse _ _ (sym c.in_err-require.ensures.faults)))
 
-pub returns-then-not-known_target-clause-lists : goal.returns-then-not-known_target-clause-lists
-returns-then-not-known_target-clause-lists c =
+pub returns-in_err-require-clause-lists : goal.returns-in_err-require-clause-lists
+returns-in_err-require-clause-lists c =
     let h = c.requires.0 in
-    marked_to _ _ c.loop-i.i c.loop-i.invariant.0 (omega arith) (pointer_unknown h _ (c.if-not-known_target.ensures _ c.requires.1 h.total)) c.loop-i.invariant.4
+    let i = c.loop-i.i in
+    let fault = pointer_by h i (c.known_target-known.ensures _ c.requires.1 h.total) (entry_word h i 0 _ refl (c.entries-target-items.ensures.same i 0 (omega arith) (omega arith))) refl in
+    marked_to _ _ i c.loop-i.invariant.pass (omega arith) (sym fault ∙ or_else_refuse _ _ (sym c.in_err-require.ensures.faults)) c.loop-i.invariant.list
 
-pub offset_bounds-entry-k : goal.offset_bounds-entry-k
-offset_bounds-entry-k c =
+pub offset_bounds-entry-slot : goal.offset_bounds-entry-slot
+offset_bounds-entry-slot c =
     let h = c.requires.0 in
-    omega (arith, below h _ _ _ c.requires.1 c.requires.2 (c.if-not-known_target.ensures _ c.requires.1 h.total) c.target_slot-k.ensures)
+    omega (arith, below h _ _ _ c.requires.1 c.requires.2 c.in_ok-require.ensures.met (c.known_target-known.ensures _ c.requires.1 h.total) c.target_slot-slot.ensures)
 
-pub bounds-entry-k : goal.bounds-entry-k
-bounds-entry-k c =
+pub bounds-entry-slot : goal.bounds-entry-slot
+bounds-entry-slot c =
     let h = c.requires.0 in
-    below h _ _ _ c.requires.1 c.requires.2 (c.if-not-known_target.ensures _ c.requires.1 h.total) c.target_slot-k.ensures
+    below h _ _ _ c.requires.1 c.requires.2 c.in_ok-require.ensures.met (c.known_target-known.ensures _ c.requires.1 h.total) c.target_slot-slot.ensures
 
-pub returns-then-entry-k-ne0-clause-found : goal.returns-then-entry-k-ne0-clause-found
-returns-then-entry-k-ne0-clause-found c =
+pub returns-in_err-require-2-clause-found : goal.returns-in_err-require-2-clause-found
+returns-in_err-require-2-clause-found c =
     let h = c.requires.0 in
-    let k = c.if-not-known_target.ensures _ c.requires.1 h.total in
-    refusal (each_refuses _ _ c.loop-i.invariant.0 _ (omega arith) (pointer_again h _ k (λ z. c.if-entry-k-ne0.true (mark c.loop-i.invariant.3 _ _ k c.target_slot-k.ensures ∙ z))))
+    let i = c.loop-i.i in
+    let known = c.known_target-known.ensures _ c.requires.1 h.total in
+    let fault = pointer_by h i known (entry_word h i 0 _ refl (c.entries-target-items.ensures.same i 0 (omega arith) (omega arith))) (mark c.loop-i.invariant.marks _ _ c.in_ok-require.ensures.met known c.target_slot-slot.ensures) in
+    let on = c.from_residual-in_err-require-2 in
+    refusal_on on.result _ on.ensures.1
+    (each_refuses _ i c.loop-i.invariant.pass _ (omega arith) (sym fault ∙ or_else_pass _ _ (sym c.in_ok-require.ensures.faults) ∙ sym c.in_err-require-2.ensures.faults))
 
-pub returns-then-entry-k-ne0-clause-lists : goal.returns-then-entry-k-ne0-clause-lists
-returns-then-entry-k-ne0-clause-lists c =
+pub returns-in_err-require-2-clause-lists : goal.returns-in_err-require-2-clause-lists
+returns-in_err-require-2-clause-lists c =
     let h = c.requires.0 in
-    let k = c.if-not-known_target.ensures _ c.requires.1 h.total in
-    marked_to _ _ c.loop-i.i c.loop-i.invariant.0 (omega arith) (pointer_again h _ k (λ z. c.if-entry-k-ne0.true (mark c.loop-i.invariant.3 _ _ k c.target_slot-k.ensures ∙ z))) c.loop-i.invariant.4
+    let i = c.loop-i.i in
+    let known = c.known_target-known.ensures _ c.requires.1 h.total in
+    let fault = pointer_by h i known (entry_word h i 0 _ refl (c.entries-target-items.ensures.same i 0 (omega arith) (omega arith))) (mark c.loop-i.invariant.marks _ _ c.in_ok-require.ensures.met known c.target_slot-slot.ensures) in
+    marked_to _ _ i c.loop-i.invariant.pass (omega arith)
+    (sym fault ∙ or_else_pass _ _ (sym c.in_ok-require.ensures.faults) ∙ sym c.in_err-require-2.ensures.faults)
+    c.loop-i.invariant.list
 
-pub offset_bounds-entry-k-in-loop-i : goal.offset_bounds-entry-k-in-loop-i
-offset_bounds-entry-k-in-loop-i c =
+pub offset_bounds-entry-slot-in-loop-i : goal.offset_bounds-entry-slot-in-loop-i
+offset_bounds-entry-slot-in-loop-i c =
     let h = c.requires.0 in
-    omega (arith, below h _ _ _ c.requires.1 c.requires.2 (c.if-not-known_target.ensures _ c.requires.1 h.total) c.target_slot-k.ensures)
+    omega (arith, below h _ _ _ c.requires.1 c.requires.2 c.in_ok-require.ensures.met (c.known_target-known.ensures _ c.requires.1 h.total) c.target_slot-slot.ensures)
 
-pub bounds-entry-k-in-loop-i : goal.bounds-entry-k-in-loop-i
-bounds-entry-k-in-loop-i c =
+pub bounds-entry-slot-in-loop-i : goal.bounds-entry-slot-in-loop-i
+bounds-entry-slot-in-loop-i c =
     let h = c.requires.0 in
-    below h _ _ _ c.requires.1 c.requires.2 (c.if-not-known_target.ensures _ c.requires.1 h.total) c.target_slot-k.ensures
+    below h _ _ _ c.requires.1 c.requires.2 c.in_ok-require.ensures.met (c.known_target-known.ensures _ c.requires.1 h.total) c.target_slot-slot.ensures
 
 pub loop-i-preserved : goal.loop-i-preserved
 loop-i-preserved c =
     let t = c.args.t.now in
     let h = c.requires.0 in
     let a = c.loop-i in
-    let k = c.if-not-known_target.ensures _ c.requires.1 h.total in
-    let at = c.target_slot-k.ensures in (
-      each_more _ _ a.invariant.0 (pointer_new h _ k (sym (mark a.invariant.3 _ _ k at) ∙ c.if-entry-k-ne0.false)),
-      omega arith,
-      simp length-set a.invariant.2,
-      marks_more t (omega arith) (omega arith) a.entry a.i _ _ _ at a.invariant.1 a.invariant.2 (sym k) (target_at h a.i) c.if-entry-k-ne0.false a.invariant.3,
-      marked_more t _ a.i _ _ (at ∙ ap slot (sym (target_at h a.i))) a.invariant.1 a.invariant.4,
-    )
-
-pub returns-clause-found : goal.returns-clause-found
-returns-clause-found c =
-    let h = c.requires.0 in
-    let n : c.loop-i.i ≡ count c.args.t.now 2 = omega arith in
-    record { verdict = each_all _ _ _ n c.loop-i.invariant.0; found = λ e. rw n at c.loop-i.invariant.3 }
+    let i = a.i in
+    let x = word (get_or c.entries-target-items.result.now i []) 0 in
+    let item = entry_word h i 0 _ refl (c.entries-target-items.ensures.same i 0 (omega arith) (omega arith)) in
+    let known = c.known_target-known.ensures _ c.requires.1 h.total in
+    let at = c.target_slot-slot.ensures in
+    let fault = pointer_by h i known item (mark a.invariant.marks _ _ c.in_ok-require.ensures.met known at) in
+    let none = eqb-true _ 0 c.in_ok-require-2.ensures.met in
+    let v : ◌≡◌ {A = ℕ} (2 + i) (2 + i) = refl in
+    record {
+      pass = each_more _ i a.invariant.pass (sym fault ∙ or_else_pass _ _ (sym c.in_ok-require.ensures.faults) ∙ sym c.in_ok-require-2.ensures.faults);
+      room = simp length-set a.invariant.room;
+      marks = marks_more t (omega arith) (omega arith) a.entry i x _ _ at v a.invariant.room (sym known ∙ c.in_ok-require.ensures.met) (sym item) none a.invariant.marks;
+      list = marked_more t _ i _ _ (at ∙ ap slot item) v a.invariant.list;
+    }
 
 pub returns-clause-lists : goal.returns-clause-lists
 returns-clause-lists c =
     let h = c.requires.0 in
     let n : c.loop-i.i ≡ count c.args.t.now 2 = omega arith in
-    marked_all _ _ n c.loop-i.invariant.0 c.loop-i.invariant.4
+    marked_all _ _ n c.loop-i.invariant.pass c.loop-i.invariant.list

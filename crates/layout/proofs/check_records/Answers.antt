@@ -1,16 +1,19 @@
--- The records before i pass, and record i has no fields or passes.
-use Rattle.std.proofs.Common.{refl, arith}
-use Rattle.semantics.specs.Check.{each}
-use Rattle.layout.proofs.Laws.{each_more, each_refuses}
-use Rattle.layout.proofs.Types.{record_empty, record_some}
+-- What is required of record i is its part of the definition.
+use Rattle.std.proofs.Common.{refl, sym, ◌∙◌, arith}
+use Rattle.layout.proofs.Laws.{each_more, each_refuses, verdict_on, entry_word}
+use Rattle.layout.proofs.Types.{record_by}
 use Rattle.layout.proofs.check_records.Goals as goal
 
-pub loop-i-init : goal.loop-i-init
-unfolding each
-loop-i-init c = refl
-
-pub returns-then-t-place-eq0 : goal.returns-then-t-place-eq0
-returns-then-t-place-eq0 c = let h = c.requires in each_refuses _ _ c.loop-i.invariant _ (omega arith) (record_empty h _ c.if-t-place-eq0.true)
+pub returns-in_err-require : goal.returns-in_err-require
+returns-in_err-require c =
+    let h = c.requires in
+    let i = c.loop-i.i in
+    let total = entry_word h i 0 _ refl (c.entries-total-items.ensures.same i 0 (omega arith) (omega arith)) in
+    verdict_on c.from_residual.result _ c.from_residual.ensures.1 (each_refuses _ i c.loop-i.invariant _ (omega arith) (sym (record_by h i total) ∙ sym c.in_err-require.ensures.faults))
 
 pub loop-i-preserved : goal.loop-i-preserved
-loop-i-preserved c = each_more _ _ c.loop-i.invariant (record_some c.requires _ c.if-t-place-eq0.false)
+loop-i-preserved c =
+    let h = c.requires in
+    let i = c.loop-i.i in
+    let total = entry_word h i 0 _ refl (c.entries-total-items.ensures.same i 0 (omega arith) (omega arith)) in
+    each_more _ i c.loop-i.invariant (sym (record_by h i total) ∙ sym c.in_ok-require.ensures.faults)

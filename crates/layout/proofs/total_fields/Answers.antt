@@ -1,13 +1,10 @@
 -- One record's fields more.
 use Rattle.std.proofs.Common.{refl, arith}
-use Rattle.semantics.specs.Words.{sum_below}
-use Rattle.semantics.specs.Table.{first_field}
+use Rattle.layout.proofs.Laws.{entry_word}
 use Rattle.layout.proofs.Types.{first_more}
 use Rattle.layout.proofs.total_fields.Goals as goal
 
-pub loop-i-init : goal.loop-i-init
-unfolding first_field sum_below
-loop-i-init c = (refl, omega arith)
-
-pub loop-i-preserved : goal.loop-i-preserved
-loop-i-preserved c = (omega (arith, first_more c.requires c.loop-i.i), omega arith)
+pub loop-total-preserved : goal.loop-total-preserved
+loop-total-preserved c =
+    let i = c.loop-total.total-index in
+    (omega (arith, first_more c.args.t.now i (entry_word c.requires i 0 _ refl (c.entries-total-items.ensures.same i 0 (omega arith) (omega arith)))), omega arith)

@@ -1,15 +1,20 @@
 -- Each arm puts the line of its ending.
-use Rattle.lines.proofs.Lines.{same_items, bare_refused_items, bare_done_items, bare_noroom_items, stuck_items}
+use Rattle.std.proofs.Common.{◌≡◌}
+use Rattle.lines.specs.Lines.{ending_line, bare_ending_line}
 use Rattle.lines.proofs.put_bare_ending.Goals as goal
 
-pub returns-in-Refused : goal.returns-in-Refused
-returns-in-Refused c = same_items (bare_refused_items c.in-Refused.is) c.put_ending.ensures
+pub returns-in-Err : goal.returns-in-Err
+unfolding bare_ending_line
+returns-in-Err c = rw c.in-Err.is c.put_refusal.ensures
 
-pub returns-in-Done : goal.returns-in-Done
-returns-in-Done c = same_items (bare_done_items c.in-Done.is) c.put_ending-in-Done.ensures
+pub returns-in-Ok-Done : goal.returns-in-Ok-Done
+unfolding bare_ending_line ending_line
+returns-in-Ok-Done c = let k = c.in-Ok-Done in let e : k.field-0 ≡ _ = rw k.is at k.field-0-is in rw (k.is, e) c.put_after.ensures
 
-pub returns-in-NoRoom : goal.returns-in-NoRoom
-returns-in-NoRoom c = same_items (bare_noroom_items c.in-NoRoom.is) c.put_ending-in-NoRoom.ensures
+pub returns-in-Ok-NoRoom : goal.returns-in-Ok-NoRoom
+unfolding bare_ending_line ending_line
+returns-in-Ok-NoRoom c = let k = c.in-Ok-NoRoom in let e : k.field-0 ≡ _ = rw k.is at k.field-0-is in rw (k.is, e) c.put_pair.ensures
 
-pub returns-in-Stuck : goal.returns-in-Stuck
-returns-in-Stuck c = same_items (stuck_items c.in-Stuck.is c.long.ensures.0 c.long-in-Stuck.ensures.0) c.put_pair.ensures
+pub returns-in-Ok-Stuck : goal.returns-in-Ok-Stuck
+unfolding bare_ending_line
+returns-in-Ok-Stuck c = let k = c.in-Ok-Stuck in let e : k.field-0 ≡ _ = rw k.is at k.field-0-is in rw (k.is, e) c.put_pair-in-Ok-Stuck.ensures

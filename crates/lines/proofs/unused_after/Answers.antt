@@ -1,20 +1,19 @@
-use Rattle.std.proofs.Common.{◌∙◌}
+use Rattle.std.proofs.Common.{◌≡◌, refl}
 use Rattle.lines.specs.Lines.{unused}
-use Rattle.lines.proofs.Lines.{unused_of}
 use Rattle.lines.proofs.unused_after.Goals as goal
 
-pub returns-in-Refused : goal.returns-in-Refused
+pub returns-in-Err : goal.returns-in-Err
 unfolding unused
-returns-in-Refused c = unused_of c.in-Refused.is
+returns-in-Err g c = rw c.in-Err.is refl
 
-pub returns-in-Done : goal.returns-in-Done
+pub returns-in-Ok-Done : goal.returns-in-Ok-Done
 unfolding unused
-returns-in-Done c = c.index.ensures.0 ∙ unused_of c.in-Done.is
+returns-in-Ok-Done g c = let k = c.in-Ok-Done in let e : k.field-0 ≡ _ = rw k.is at k.field-0-is in rw (k.is, e) refl
 
-pub returns-in-Abort : goal.returns-in-Abort
+pub returns-in-Ok-Abort : goal.returns-in-Ok-Abort
 unfolding unused
-returns-in-Abort c = c.index-in-Abort.ensures.0 ∙ unused_of c.in-Abort.is
+returns-in-Ok-Abort g c = let k = c.in-Ok-Abort in let e : k.field-0 ≡ _ = rw k.is at k.field-0-is in rw (k.is, e) refl
 
-pub returns-in-NoRoom : goal.returns-in-NoRoom
+pub returns-in-Ok-NoRoom : goal.returns-in-Ok-NoRoom
 unfolding unused
-returns-in-NoRoom c = c.index-in-NoRoom.ensures.0 ∙ unused_of c.in-NoRoom.is
+returns-in-Ok-NoRoom g c = let k = c.in-Ok-NoRoom in let e : k.field-0 ≡ _ = rw k.is at k.field-0-is in rw (k.is, e) refl

@@ -1,5 +1,5 @@
 -- The memory that a run begins with, list by list.
-use Rattle.std.proofs.Common.{arith}
+use Rattle.std.proofs.Common.{arith, refl}
 use Rattle.machine.proofs.Calls.{registers_fit, unused_fits, has_begun}
 use Rattle.machine.proofs.begin.Goals as goal
 
@@ -10,4 +10,4 @@ pub clear_from-requires : goal.clear_from-requires
 clear_from-requires c = omega (arith, unused_fits c.requires c.clear.ensures c.clear-2.ensures c.store_all.ensures (omega arith) c.set_registers-unused.ensures)
 
 pub returns : goal.returns
-returns c = has_begun c.requires c.clear.ensures c.clear-2.ensures c.store_all.ensures (omega arith) c.set_registers-unused.ensures c.index.ensures.0 c.clear_from.ensures
+returns c = has_begun c.requires c.clear.ensures c.clear-2.ensures c.store_all.ensures (omega arith) c.set_registers-unused.ensures refl c.clear_from.ensures

@@ -1,5 +1,5 @@
 -- The memory that a bare run begins with.
-use Rattle.std.proofs.Common.{arith}
+use Rattle.std.proofs.Common.{arith, refl}
 use Rattle.machine.proofs.Bare.{bare_unused_fits, bare_begun}
 use Rattle.machine.proofs.begin_bare.Goals as goal
 
@@ -7,4 +7,4 @@ pub clear_from-requires : goal.clear_from-requires
 clear_from-requires c = omega (arith, bare_unused_fits c.requires c.store_all.ensures (omega arith) c.place_registers-unused.ensures)
 
 pub returns : goal.returns
-returns c = bare_begun c.requires c.store_all.ensures (omega arith) c.place_registers-unused.ensures c.index.ensures.0 c.clear_from.ensures
+returns c = bare_begun c.requires c.store_all.ensures (omega arith) c.place_registers-unused.ensures refl c.clear_from.ensures

@@ -4,4 +4,4 @@ use Rattle.moves.proofs.Moves.{all_moved}
 use Rattle.moves.proofs.move_up.Goals as goal
 
 pub returns : goal.returns
-returns c = all_moved c.loop-i.invariant.1 (omega arith) refl
+returns c = all_moved c.loop-i.invariant (omega arith) refl

@@ -13,4 +13,4 @@ pub bounds-t-targets : goal.bounds-t-targets
 bounds-t-targets c = omega (arith, target_inside c.requires)
 
 pub returns : goal.returns
-returns c = rw c.index.ensures.0 (sym (target_found c.requires))
+returns c = sym (target_found c.requires)

@@ -1,41 +1,39 @@
 -- `registers::check_room` meets its contract. Assumes nothing.
-use Rattle.std.proofs.Common.{◌+◌, ◌∙◌, ap, refl, arith}
+use Rattle.std.proofs.Common.{◌+◌, ◌∙◌, ap, sym, refl, arith, leb-true}
 use Rattle.semantics.specs.Check.{each}
 use Rattle.semantics.proofs.Registers.{register_inside}
-use Rattle.layout.proofs.Laws.{each_more, each_refuses, each_all}
-use Rattle.registers.proofs.Lists.{place_none, place_more, start_none, start_more, room_refused, room_passes, whole_length}
+use Rattle.layout.proofs.Laws.{each_more, each_refuses, verdict_on}
+use Rattle.registers.proofs.Lists.{of_list, start_none, start_more, room_by}
 use Rattle.registers.proofs.check_room.Goals as goal
 
-pub bounds-list-0 : goal.bounds-list-0
-bounds-list-0 c = omega (arith, whole_length c.requires.0)
-
-pub loop-i-init : goal.loop-i-init
+pub loop-register-init : goal.loop-register-init
 unfolding each
-loop-i-init c = (omega arith, place_none _, start_none _ _, omega arith, refl)
+loop-register-init c =
+    let start = c.of-register-items.ensures in
+    rw (c.into_iter-register-iterator.ensures.into_iter_gives, start.1) (record { list = start.0; end = start_none _ _; room = c.requires.1; pass = refl })
 
-pub overflow_add-at : goal.overflow_add-at
-overflow_add-at c = omega (arith, register_inside c.requires.0 c.loop-i.i (omega arith))
+pub overflow_add-register : goal.overflow_add-register
+overflow_add-register c =
+    let s = of_list c.in-Some.ensures.steps.0 c.loop-register.invariant.list in
+    omega (arith, s.place, register_inside c.requires.0 _ s.before_end)
 
-pub offset_bounds-list-at : goal.offset_bounds-list-at
-offset_bounds-list-at c = omega (arith, register_inside c.requires.0 c.loop-i.i (omega arith))
+pub returns-in_err-require : goal.returns-in_err-require
+returns-in_err-require c =
+    let inv = c.loop-register.invariant in
+    let s = of_list c.in-Some.ensures.steps.0 inv.list in
+    let e = ap (c.loop-register.end +◌) s.words ∙ start_more _ _ _ s.place inv.end in
+    verdict_on c.from_residual.result _ c.from_residual.ensures.1 (each_refuses _ _ inv.pass _ s.before_end (sym (room_by _ _ _ _ s.place e) ∙ sym c.in_err-require.ensures.faults))
 
-pub bounds-list-at : goal.bounds-list-at
-bounds-list-at c = omega (arith, register_inside c.requires.0 c.loop-i.i (omega arith))
-
-pub returns-then-memory-end : goal.returns-then-memory-end
-returns-then-memory-end c =
-    let inv = c.loop-i.invariant in
-    each_refuses _ c.loop-i.i inv.4 _ (omega arith)
-    (room_refused _ _ _ _ inv.1 (ap (c.loop-i.end +◌) c.index-end.ensures.0 ∙ start_more _ _ _ inv.1 inv.2) (omega arith))
-
-pub register_end-p-requires : goal.register_end-p-requires
-register_end-p-requires c = omega (arith, register_inside c.requires.0 c.loop-i.i (omega arith))
-
-pub loop-i-preserved : goal.loop-i-preserved
-loop-i-preserved c =
-    let inv = c.loop-i.invariant in
-    let e = ap (c.loop-i.end +◌) c.index-end.ensures.0 ∙ start_more _ _ _ inv.1 inv.2 in
-    (omega arith, place_more _ c.loop-i.i inv.1 c.register_end-p.ensures, e, omega arith, each_more _ c.loop-i.i inv.4 (room_passes _ _ _ _ inv.1 e (omega arith)))
-
-pub returns : goal.returns
-returns c = each_all _ _ _ (omega arith) c.loop-i.invariant.4
+pub loop-register-preserved : goal.loop-register-preserved
+loop-register-preserved c =
+    let inv = c.loop-register.invariant in
+    let step = c.in-Some.ensures.steps in
+    let s = of_list step.0 inv.list in
+    let e = ap (c.loop-register.end +◌) s.words ∙ start_more _ _ _ s.place inv.end in
+    rw step.2
+    (record {
+      list = step.1 ∙ inv.list;
+      end = e;
+      room = leb-true _ _ c.in_ok-require.ensures.met;
+      pass = each_more _ _ inv.pass (sym (room_by _ _ _ _ s.place e) ∙ sym c.in_ok-require.ensures.faults);
+    })

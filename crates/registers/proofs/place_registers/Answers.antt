@@ -1,26 +1,23 @@
 -- `registers::place_registers` meets its contract. Assumes nothing.
-use Rattle.std.proofs.Common.{arith, refl}
-use Rattle.semantics.proofs.Registers.{register_inside}
-use Rattle.registers.proofs.Lists.{place_none, place_more, whole_length}
-use Rattle.registers.proofs.Places.{none_placed, one_more_placed, all_placed, next_placeable}
+use Rattle.std.proofs.Common.{arith, refl, ◌∙◌}
+use Rattle.registers.proofs.Lists.{of_list}
+use Rattle.registers.proofs.Places.{none_placed, one_more_placed, next_placeable}
 use Rattle.registers.proofs.place_registers.Goals as goal
 
-pub bounds-list-0 : goal.bounds-list-0
-bounds-list-0 c = omega (arith, whole_length c.requires.list.extent)
-
-pub loop-i-init : goal.loop-i-init
-loop-i-init c = (omega arith, place_none _, none_placed _ _ _, refl)
+pub loop-register-init : goal.loop-register-init
+loop-register-init c =
+    let start = c.of-register-items.ensures in
+    rw (c.into_iter-register-iterator.ensures.into_iter_gives, start.1) (record { list = start.0; placed = none_placed _ _ _; values_length = refl })
 
 pub place_register-at-requires : goal.place_register-at-requires
-place_register-at-requires c = let inv = c.loop-i.invariant in next_placeable inv.2 c.requires (omega arith) inv.1 inv.3
+place_register-at-requires c =
+    let inv = c.loop-register.invariant in
+    let s = of_list c.in-Some.ensures.steps.0 inv.list in
+    next_placeable inv.placed c.requires s.before_end s.place inv.values_length
 
-pub register_end-p-requires : goal.register_end-p-requires
-register_end-p-requires c = omega (arith, register_inside c.requires.list.extent c.loop-i.i (omega arith))
-
-pub loop-i-preserved : goal.loop-i-preserved
-loop-i-preserved c =
-    let inv = c.loop-i.invariant in
-    (omega arith, place_more _ c.loop-i.i inv.1 c.register_end-p.ensures, one_more_placed inv.2 inv.1 c.place_register-at.ensures, omega arith)
-
-pub returns : goal.returns
-returns c = all_placed c.loop-i.invariant.2 (omega arith)
+pub loop-register-preserved : goal.loop-register-preserved
+loop-register-preserved c =
+    let inv = c.loop-register.invariant in
+    let step = c.in-Some.ensures.steps in
+    let s = of_list step.0 inv.list in
+    rw step.2 (record { list = step.1 ∙ inv.list; placed = one_more_placed inv.placed s.place c.place_register-at.ensures; values_length = omega arith })

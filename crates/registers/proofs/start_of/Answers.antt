@@ -1,43 +1,31 @@
 -- `registers::start_of` meets its contract. Assumes nothing.
-use Rattle.std.proofs.Common.{◌+◌, ◌≡◌, ◌∙◌, ap, arith}
+use Rattle.std.proofs.Common.{◌+◌, ◌∙◌, ap, arith}
 use Rattle.semantics.specs.Words.{word}
-use Rattle.semantics.specs.Registers.{register_start}
-use Rattle.semantics.proofs.Registers.{register_inside}
+use Rattle.semantics.specs.Registers.{register_count, register_start}
 use Rattle.registers.specs.Blocks.{in_register, past_all}
-use Rattle.registers.proofs.Lists.{place_none, place_more, start_none, start_more, whole_length}
+use Rattle.registers.proofs.Lists.{of_list, start_none, start_more}
 use Rattle.registers.proofs.start_of.Goals as goal
 
-pub bounds-list-0 : goal.bounds-list-0
-bounds-list-0 c = omega (arith, whole_length c.requires.0)
-
-pub loop-i-init : goal.loop-i-init
-loop-i-init c = (omega arith, place_none _, start_none _ _, c.requires.1)
-
-pub overflow_add-p : goal.overflow_add-p
-overflow_add-p c = omega (arith, register_inside c.requires.0 c.loop-i.i (omega arith))
-
-pub offset_bounds-list-p : goal.offset_bounds-list-p
-offset_bounds-list-p c = omega (arith, register_inside c.requires.0 c.loop-i.i (omega arith))
-
-pub bounds-list-p : goal.bounds-list-p
-bounds-list-p c = omega (arith, register_inside c.requires.0 c.loop-i.i (omega arith))
+pub loop-register-init : goal.loop-register-init
+loop-register-init c =
+    let start = c.of-register-items.ensures in
+    rw (c.into_iter-register-iterator.ensures.into_iter_gives, start.1) (record { list = start.0; at = start_none _ _; past = c.requires.1 })
 
 pub returns-then-w-end : goal.returns-then-w-end
 returns-then-w-end c =
-    let inv = c.loop-i.invariant in
-    rw (c.narrow.ensures ∙ inv.2)
-    (in_register c.loop-i.i (omega arith) (omega arith) (omega (arith, c.index.ensures.0, ap (λ q. word c.args.list.now (q + 1)) inv.1)))
+    let inv = c.loop-register.invariant in
+    let s = of_list c.in-Some.ensures.steps.0 inv.list in
+    rw inv.at (in_register _ s.before_end (omega (arith, inv.at)) (omega (arith, inv.at, s.words, ap (λ q. word c.args.list.now (q + 1)) s.place)))
 
-pub register_end-p-requires : goal.register_end-p-requires
-register_end-p-requires c = omega (arith, register_inside c.requires.0 c.loop-i.i (omega arith))
-
-pub loop-i-preserved : goal.loop-i-preserved
-loop-i-preserved c =
-    let inv = c.loop-i.invariant in
-    let e = ap (c.loop-i.at +◌) c.index.ensures.0 ∙ start_more _ _ _ inv.1 inv.2 in
-    (omega arith, place_more _ c.loop-i.i inv.1 c.register_end-p.ensures, e, omega arith)
+pub loop-register-preserved : goal.loop-register-preserved
+loop-register-preserved c =
+    let inv = c.loop-register.invariant in
+    let step = c.in-Some.ensures.steps in
+    let s = of_list step.0 inv.list in
+    rw step.2 (record { list = step.1 ∙ inv.list; at = ap (c.loop-register.at +◌) s.words ∙ start_more _ _ _ s.place inv.at; past = c.if-w-end.false })
 
 pub returns : goal.returns
 returns c =
-    let all : c.loop-i.i ≡ word c.args.list.now 0 = omega arith in
-    past_all (omega (arith, ap (register_start c.args.first c.args.list.now) all))
+    let inv = c.loop-register.invariant in
+    let all = c.in-None.ensures.steps.0 ∙ ap register_count inv.list in
+    past_all (omega (arith, inv.at, ap (register_start c.args.first c.args.list.now) all))

@@ -1,25 +1,36 @@
--- The offset of field `left` is that of the field before it and the words of that field, which are added.
-use Rattle.std.proofs.Common.{◌≡◌, ◌-◌, arith}
+-- The offset of the fields left is that of those before the last and the words of the last, which are added.
+use Rattle.std.proofs.Common.{ℕ, ◌≡◌, ◌+◌, List, [], length, get_or, arith, ap, ◌∙◌}
+use Rattle.semantics.specs.Words.{Words, word}
+use Rattle.semantics.specs.Table.{fields, item}
 use Rattle.semantics.proofs.Sizes.{offset_none, offset_last}
-use Rattle.sizes.proofs.Sums.{next_offset}
+use Rattle.sizes.proofs.Sums.{last_entry, entries_left}
 use Rattle.sizes.proofs.add_up.Goals as goal
 
-pub loop-left-init : goal.loop-left-init
-loop-left-init c =
+pub loop-words-init : goal.loop-words-init
+loop-words-init c =
     let own = c.fields_of-own.ensures c.args.t.now c.requires.1 in
-    (omega arith, own.0, own.1, rw own.1 (omega (arith, offset_last c.args.t.now c.args.r)))
+    let same : c.into_iter-words-iterator.result.iter.rest.now ≡ c.entries_of.result.now = cc in
+    let total = ap length same ∙ c.entries_of.ensures.all ∙ own.1 in
+    record {
+      entries = λ f less.
+          ap (λ (l : List Words). word (get_or l f []) 1) same ∙ c.entries_of.ensures.words f (omega arith) ∙ ap (λ (at : ℕ). item c.args.t.now fields (at + f) 1) own.0;
+      sum_left = rw total (omega (arith, offset_last c.args.t.now c.args.r));
+    }
 
 pub overflow_add-sum : goal.overflow_add-sum
 overflow_add-sum c =
-    let left = c.loop-left.left in
-    omega (arith, c.requires.2, next_offset _ _ (left - 1) left _ _ (omega arith) c.loop-left.invariant.1 c.words_of-sum.ensures)
+    let a = c.loop-words.invariant in
+    omega (arith, c.requires.2, last_entry _ _ _ _ c.in-Some.ensures.steps a.entries _ a.sum_left)
 
-pub loop-left-preserved : goal.loop-left-preserved
-loop-left-preserved c =
-    let a = c.loop-left in
-    (omega arith, a.invariant.1, a.invariant.2, omega (arith, next_offset _ _ (a.left - 1) a.left _ _ (omega arith) a.invariant.1 c.words_of-sum.ensures, a.invariant.3))
+pub loop-words-preserved : goal.loop-words-preserved
+loop-words-preserved c =
+    let a = c.loop-words.invariant in
+    record {
+      entries = entries_left _ _ _ _ c.in-Some.ensures.steps a.entries;
+      sum_left = last_entry _ _ _ _ c.in-Some.ensures.steps a.entries _ a.sum_left;
+    }
 
 pub returns : goal.returns
 returns c =
-    let none : c.loop-left.left ≡ 0 = omega arith in
-    omega (arith, rw none at c.loop-left.invariant.3, offset_none c.args.t.now c.args.r)
+    let none : length c.loop-words.words-iterator.iter.rest.now ≡ 0 = c.in-None.ensures.steps.0 in
+    omega (arith, rw none at c.loop-words.invariant.sum_left, offset_none c.args.t.now c.args.r)

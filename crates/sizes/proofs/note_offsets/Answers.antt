@@ -6,17 +6,18 @@ use Rattle.sizes.proofs.Sums.{next_offset}
 use Rattle.sizes.proofs.note_offsets.Goals as goal
 
 pub loop-f-init : goal.loop-f-init
-loop-f-init c =
-    let own = c.fields_of-own.ensures _ c.requires.1 in
-    (own.0, own.1, sym (offset_none _ _), sym (filled_none _ _ _))
+loop-f-init c = (sym (offset_none _ _), sym (filled_none _ _ _))
 
 pub overflow_add-next : goal.overflow_add-next
 overflow_add-next c =
-    let next = next_offset _ _ c.loop-f.f (c.loop-f.f + 1) _ _ (omega arith) c.loop-f.invariant.0 c.words_of.ensures in
-    omega (arith, c.requires.2, next, offset_most c.args.t.now c.args.r (c.loop-f.f + 1) (omega arith))
+    let own = c.fields_of-own.ensures _ c.requires.1 in
+    let f = c.loop-f.f in
+    let next = next_offset _ _ f (f + 1) _ _ (omega arith) own.0 (c.entries_of-words-items.ensures.words f (omega arith)) in
+    omega (arith, c.requires.2, next, offset_most c.args.t.now c.args.r (f + 1) (omega arith))
 
 pub loop-f-preserved : goal.loop-f-preserved
 loop-f-preserved c =
+    let own = c.fields_of-own.ensures _ c.requires.1 in
     let a = c.loop-f in
-    let next = next_offset _ _ a.f (a.f + 1) _ _ (omega arith) a.invariant.0 c.words_of.ensures in
-    (a.invariant.0, a.invariant.1, omega (arith, next, a.invariant.2), filled_more _ _ _ a.f _ _ a.invariant.3 (omega (arith, a.invariant.0)) a.invariant.2)
+    let next = next_offset _ _ a.f (a.f + 1) _ _ (omega arith) own.0 (c.entries_of-words-items.ensures.words a.f (omega arith)) in
+    (omega (arith, next, a.invariant.0), filled_more _ _ _ a.f _ _ a.invariant.1 (omega (arith, own.0)) a.invariant.0)

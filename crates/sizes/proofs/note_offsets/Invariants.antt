@@ -1,9 +1,9 @@
 -- The fields before f are noted, and `offset` is the offset of field f.
 use Rattle.std.proofs.Common.{◌≡◌}
-use Rattle.semantics.specs.Table.{field_total, first_field, field_offset}
+use Rattle.semantics.specs.Table.{first_field, field_offset}
 use Rattle.layout.specs.Lists.{filled}
 use Rattle.sizes.proofs.note_offsets.Given as goal
 
 abbrev pub invariant-loop-f : goal.invariant-loop-f
 invariant-loop-f l =
-    (l.start ≡ first_field l.t l.r) × (l.total ≡ field_total l.t l.r) × (l.offset ≡ field_offset l.t l.r l.f) × (l.offsets ≡ filled l.initial.offsets (first_field l.t l.r) l.f (field_offset l.t l.r))
+    (l.offset ≡ field_offset l.t l.r l.f) × (l.offsets ≡ filled l.initial.offsets (first_field l.t l.r) l.f (field_offset l.t l.r))

@@ -1,9 +1,8 @@
-use Rattle.std.proofs.Common.{arith}
-use Rattle.stream.proofs.Parts.{is_closed, is_open}
+use Rattle.stream.proofs.Parts.{cut_closed, cut_open}
 use Rattle.stream.proofs.cut.Goals as goal
 
-pub returns-then-to-bytes : goal.returns-then-to-bytes
-returns-then-to-bytes c = (is_closed _ _ _ c.find-to.ensures.0 c.if-to-bytes.true, omega arith, omega arith)
+pub returns-in-Some : goal.returns-in-Some
+returns-in-Some c = cut_closed _ _ _ c.requires c.find.ensures c.in-Some.is
 
-pub returns : goal.returns
-returns c = (is_open _ _ _ c.find-to.ensures.0 c.if-to-bytes.false, omega arith, omega arith)
+pub returns-in-None : goal.returns-in-None
+returns-in-None c = cut_open _ _ _ c.requires c.find.ensures c.in-None.is

@@ -1,11 +1,12 @@
-use Rattle.std.proofs.Common.{◌∙◌, arith}
-use Rattle.stream.proofs.Parts.{free_enough, free_none}
+use Rattle.std.proofs.Common.{arith}
+use Rattle.stream.proofs.Parts.{room_made, room_left}
 use Rattle.stream.proofs.make_room.Goals as goal
-use Rattle.stream.proofs.make_room.Goals.{then-at-out+else-out-at-ge-ROOM, else-at-out}
+use Rattle.stream.proofs.make_room.Goals.{then-size-out-via-then-size-out, then-size-out-via-else-size-out+then-size-out-lt-ROOM}
 
-pub returns-then-out-at-ge-ROOM : goal.returns-then-out-at-ge-ROOM
-returns-then-out-at-ge-ROOM c = free_enough _ _ (omega arith)
+pub returns-then-size-out : goal.returns-then-size-out
+returns-then-size-out c =
+    room_made c.flush.ensures
+    (elim c.then-size-out.branch [ then-size-out-via-then-size-out w ↦ omega arith | then-size-out-via-else-size-out+then-size-out-lt-ROOM w ↦ omega arith ])
 
-pub returns : goal.returns
-returns c =
-    c.flush.ensures ∙ free_none _ _ (elim c.if-at-out.branch [ then-at-out+else-out-at-ge-ROOM w ↦ omega arith | else-at-out w ↦ omega arith ])
+pub returns-else-size-out-lt-ROOM : goal.returns-else-size-out-lt-ROOM
+returns-else-size-out-lt-ROOM c = room_left (omega arith)

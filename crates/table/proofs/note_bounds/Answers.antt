@@ -1,20 +1,33 @@
--- `table::note_bounds` meets its contract.
-use Rattle.std.proofs.Common.{arith, sym, ap, ◌∙◌, ◌≡◌}
-use Rattle.semantics.specs.Words.{word}
+-- A note that has not yet been come to is as it was.
+use Rattle.std.proofs.Common.{◌≡◌, length, take, drop, ◌++◌, sym, ap, ◌∙◌, arith}
+use Rattle.std.proofs.lemmas.List.{length-take-le}
+use Rattle.semantics.specs.Words.{Words}
 use Rattle.semantics.specs.Table.{edition_2}
 use Rattle.layout.specs.Notes.{as_of}
-use Rattle.layout.proofs.Lists.{filled_none, filled_more, filled_after}
+use Rattle.layout.proofs.Lists.{filled_none, filled_more, filled_front}
+use Rattle.table.proofs.Editions.{still}
 use Rattle.table.proofs.note_bounds.Goals as goal
 
-pub loop-i-init : goal.loop-i-init
-loop-i-init c = sym (filled_none _ 0 _)
+pub loop-x-init : goal.loop-x-init
+loop-x-init c = sym (filled_none _ 0 _)
 
-pub overflow_add-notes : goal.overflow_add-notes
-overflow_add-notes c =
-    let here : word c.loop-i.notes c.loop-i.i ≡ word c.args.notes.now c.loop-i.i = ap (λ l. word l c.loop-i.i) c.loop-i.invariant ∙ filled_after _ 0 _ c.loop-i.i c.loop-i.i (omega arith) in
-    omega (arith, here, c.requires.1 c.loop-i.i c.loop-i-test.true)
+pub overflow_add-x : goal.overflow_add-x
+overflow_add-x c =
+    let n = c.args.n in
+    let long : length (take n c.args.notes.now) ≡ n = length-take-le n c.args.notes.now (omega arith) in
+    let i = c.loop-x.x-index in
+    omega (arith, still n i c.args.notes.now _ c.loop-x.invariant (omega arith), c.requires.1 i (omega arith))
 
-pub loop-i-preserved : goal.loop-i-preserved
-loop-i-preserved c =
-    let here : word c.loop-i.notes c.loop-i.i ≡ word c.args.notes.now c.loop-i.i = ap (λ l. word l c.loop-i.i) c.loop-i.invariant ∙ filled_after _ 0 _ c.loop-i.i c.loop-i.i (omega arith) in
-    filled_more _ 0 _ c.loop-i.i c.loop-i.i _ c.loop-i.invariant (omega arith) (ap (as_of edition_2) here)
+pub loop-x-preserved : goal.loop-x-preserved
+loop-x-preserved c =
+    let n = c.args.n in
+    let long : length (take n c.args.notes.now) ≡ n = length-take-le n c.args.notes.now (omega arith) in
+    let i = c.loop-x.x-index in
+    filled_more _ 0 _ i i _ c.loop-x.invariant (omega arith) (ap (as_of edition_2) (still n i c.args.notes.now _ c.loop-x.invariant (omega arith)))
+
+pub returns : goal.returns
+returns c =
+    let n = c.args.n in
+    let long : length (take n c.args.notes.now) ≡ n = length-take-le n c.args.notes.now (omega arith) in
+    let all : c.loop-x.x-index ≡ n = omega arith in
+    ap (λ (l : Words). l ++ drop n c.args.notes.now) (rw all at c.loop-x.invariant) ∙ filled_front n c.args.notes.now _ (omega arith)

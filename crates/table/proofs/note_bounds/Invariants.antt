@@ -1,4 +1,4 @@
--- The notes before i have the bit, the others are as they were.
+-- The notes before x have the bit, the others are as they were.
 use Rattle.std.proofs.Common.{◌≡◌}
 use Rattle.semantics.specs.Words.{word}
 use Rattle.semantics.specs.Table.{edition_2}
@@ -6,5 +6,5 @@ use Rattle.layout.specs.Lists.{filled}
 use Rattle.layout.specs.Notes.{as_of}
 use Rattle.table.proofs.note_bounds.Given as goal
 
-abbrev pub invariant-loop-i : goal.invariant-loop-i
-invariant-loop-i l = l.notes ≡ filled l.initial.notes 0 l.i (λ k. as_of edition_2 (word l.initial.notes k))
+abbrev pub invariant-loop-x : goal.invariant-loop-x
+invariant-loop-x l = l.x-items ≡ filled l.initial.x-items 0 l.x-index (λ k. as_of edition_2 (word l.fn.notes k))

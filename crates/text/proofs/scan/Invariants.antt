@@ -1,7 +1,6 @@
--- The first i bytes are read.
-use Rattle.std.proofs.Common.{◌≡◌, length}
+-- The bytes so far are read.
 use Rattle.text.proofs.Scanning.{Reads}
 use Rattle.text.proofs.scan.Given as goal
 
-abbrev pub invariant-loop-i : goal.invariant-loop-i
-invariant-loop-i l = (l.i-end ≡ length l.chunk) × Reads l.chunk l.fn.s l.fn.numbers l.s l.numbers l.i
+abbrev pub invariant-loop-b : goal.invariant-loop-b
+invariant-loop-b l = Reads l.chunk l.fn.s l.fn.numbers l.s l.numbers l.b-index

@@ -1,9 +1,12 @@
 use Rattle.std.proofs.Common.{arith}
-use Rattle.text.proofs.Decimal.{writing_none, writing_more}
+use Rattle.text.proofs.Decimal.{writing_more, written, written_all}
 use Rattle.text.proofs.write_digits.Goals as goal
 
-pub loop-y-init : goal.loop-y-init
-loop-y-init c = writing_none _ _ _ (omega arith) (omega arith) c.last_digit.ensures
+pub returns-then-y-eq0 : goal.returns-then-y-eq0
+returns-then-y-eq0 c = written c.loop-i.invariant (omega arith) (omega arith) c.last_digit.ensures (omega arith)
 
-pub loop-y-preserved : goal.loop-y-preserved
-loop-y-preserved c = writing_more _ c.loop-y.invariant (omega arith) _ c.last_digit-in-loop-y.ensures
+pub loop-i-preserved : goal.loop-i-preserved
+loop-i-preserved c = writing_more c.loop-i.invariant (omega arith) (omega arith) c.last_digit.ensures (λ e. omega arith)
+
+pub returns : goal.returns
+returns c = written_all c.loop-i.invariant (omega arith)

@@ -1,13 +1,17 @@
-use Rattle.std.proofs.Common.{refl, eq-eqb, ne_eqb}
+use Rattle.std.proofs.Common.{refl, ne_eqb, arith}
 use Rattle.why.specs.Ascii.{ascii}
 use Rattle.why.specs.Told.{kind_text}
-use Rattle.why.proofs.Told.{puts_text}
+use Rattle.why.proofs.Told.{prints_text}
 use Rattle.why.proofs.put_kind.Goals as goal
 
-pub returns-then-kind-eq-COPY : goal.returns-then-kind-eq-COPY
+pub returns-in-11 : goal.returns-in-11
 unfolding ascii kind_text
-returns-then-kind-eq-COPY c = rw (eq-eqb _ 11 c.if-kind-eq-COPY.true) (puts_text " (a copy)" refl c.put_bytes.ensures)
+returns-in-11 c = rw c.in-11.is (prints_text " (a copy)" refl c.put_bytes.ensures)
 
-pub returns : goal.returns
+pub returns-in-3 : goal.returns-in-3
 unfolding ascii kind_text
-returns c = rw (ne_eqb _ 11 c.if-kind-eq-COPY.false) c.put_either.ensures
+returns-in-3 c = rw c.in-3.is (prints_text " (a field)" refl c.put_bytes-in-3.ensures)
+
+pub returns-in_default : goal.returns-in_default
+unfolding ascii kind_text
+returns-in_default c = rw (ne_eqb c.args.kind 11 (λ e. omega arith), ne_eqb c.args.kind 3 (λ e. omega arith)) (prints_text " (a follow)" refl c.put_bytes-in_default.ensures)

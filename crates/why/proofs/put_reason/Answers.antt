@@ -1,15 +1,15 @@
 use Rattle.std.proofs.Common.{refl}
-use Rattle.stream.proofs.Items.{puts_then}
-use Rattle.lines.proofs.Lines.{same_items}
-use Rattle.machine.specs.Explain.{cause_told}
+use Rattle.stream.proofs.Items.{prints_then}
 use Rattle.why.specs.Ascii.{ascii}
-use Rattle.why.proofs.Told.{puts_text, absent_items, outside_items}
+use Rattle.why.specs.Told.{reason_text}
+use Rattle.why.proofs.Told.{prints_text, other_reason}
+use Rattle.machine.specs.declared.Reason.TheVariants.{NoBounds}
 use Rattle.why.proofs.put_reason.Goals as goal
 
-pub returns-then-x-eq1 : goal.returns-then-x-eq1
-unfolding ascii
-returns-then-x-eq1 c = same_items (absent_items (cause_told c.args.x) _ _ c.if-x-eq1.true) (puts_text ", but the pointer has no bounds" refl c.put_bytes.ensures)
+pub returns-in-NoBounds : goal.returns-in-NoBounds
+unfolding ascii reason_text
+returns-in-NoBounds c = rw c.in-NoBounds.is (prints_text ", but the pointer has no bounds" refl c.put_bytes.ensures)
 
 pub returns : goal.returns
-returns c =
-    same_items (outside_items (cause_told c.args.x) _ _ c.if-x-eq1.false c.owner_of.ensures) (puts_then c.put_bounds-at.ensures c.put_owner.ensures)
+unfolding reason_text
+returns c = rw (other_reason _ NoBounds c.in_default.not-NoBounds, ← c.owner_of.ensures) (prints_then c.put_bounds.ensures c.put_owner.ensures)

@@ -1,16 +1,29 @@
-use Rattle.stream.proofs.Items.{puts_then}
-use Rattle.lines.proofs.Lines.{same_items}
-use Rattle.why.proofs.Told.{refused_lines, done_lines, abort_lines, noroom_lines}
+use Rattle.std.proofs.Common.{◌≡◌}
+use Rattle.stream.proofs.Items.{prints_then}
+use Rattle.why.specs.Told.{told_lines}
 use Rattle.why.proofs.put_told.Goals as goal
 
-pub returns-in-Refused : goal.returns-in-Refused
-returns-in-Refused c = same_items (refused_lines _ _ c.in-Refused.is) c.put_ended.ensures
+pub returns-in-Err : goal.returns-in-Err
+unfolding told_lines
+returns-in-Err c = let k = c.in-Err in rw k.is (rw k.is at c.put_ended.ensures)
 
-pub returns-in-Done : goal.returns-in-Done
-returns-in-Done c = same_items (done_lines _ _ c.in-Done.is) c.put_not_aborted.ensures
+pub returns-in-Ok-Abort : goal.returns-in-Ok-Abort
+unfolding told_lines
+returns-in-Ok-Abort c =
+    let k = c.in-Ok-Abort in
+    let e : k.field-0 ≡ _ = rw k.is at k.field-0-is in
+    rw (k.is, e) (prints_then (rw (k.is, e) at c.put_ended-in-Ok-Abort.ensures) c.put_cause.ensures)
 
-pub returns-in-Abort : goal.returns-in-Abort
-returns-in-Abort c = same_items (abort_lines _ _ c.in-Abort.is) (puts_then c.put_ended-at.ensures c.put_cause.ensures)
+pub returns-in-Ok-Done : goal.returns-in-Ok-Done
+unfolding told_lines
+returns-in-Ok-Done c =
+    let k = c.in-Ok-Done in
+    let e : k.field-0 ≡ _ = rw k.is at k.field-0-is in
+    rw (k.is, e) (rw (k.is, e) at c.put_not_aborted.ensures)
 
-pub returns-in-NoRoom : goal.returns-in-NoRoom
-returns-in-NoRoom c = same_items (noroom_lines _ _ c.in-NoRoom.is) c.put_not_aborted-in-NoRoom.ensures
+pub returns-in-Ok-NoRoom : goal.returns-in-Ok-NoRoom
+unfolding told_lines
+returns-in-Ok-NoRoom c =
+    let k = c.in-Ok-NoRoom in
+    let e : k.field-0 ≡ _ = rw k.is at k.field-0-is in
+    rw (k.is, e) (rw (k.is, e) at c.put_not_aborted-in-Ok-NoRoom.ensures)

@@ -1,20 +1,22 @@
--- Each `return` is a case of `section_fault`.
-use Rattle.std.proofs.Common.{arith}
-use Rattle.layout.proofs.Sections.{without_count, over_limit, cut_short, section_is}
+-- Each requirement is a part of `section_fault`.
+use Rattle.layout.proofs.Laws.{outcome_on}
+use Rattle.layout.proofs.Sections.{count_missing, over_limit, cut_short, section_is}
 use Rattle.layout.proofs.Section.parse.Goals as goal
 
-pub returns-then-length-place : goal.returns-then-length-place
-returns-then-length-place c s p w l = without_count _ s _ _ _ p w l c.if-length-place.true
+pub returns-in_err-require : goal.returns-in_err-require
+returns-in_err-require c s p w l =
+    let on = c.from_residual in
+    outcome_on on.result _ on.ensures.1 (count_missing _ s _ _ _ p w l c.in_err-require.ensures.faults)
 
-pub returns-then-limit-count : goal.returns-then-limit-count
-returns-then-limit-count c s p w l = over_limit _ s _ _ _ p w l c.if-length-place.false (rw (← c.index-count.ensures.0) c.if-limit-count.true)
+pub returns-in_err-require-2 : goal.returns-in_err-require-2
+returns-in_err-require-2 c s p w l =
+    let on = c.from_residual-in_err-require-2 in
+    outcome_on on.result _ on.ensures.1 (over_limit _ s _ _ _ p w l c.in_ok-require.ensures.faults c.in_err-require-2.ensures.faults)
 
-pub returns-then-length-at : goal.returns-then-length-at
-returns-then-length-at c s p w l =
-    let e = c.index-count.ensures.0 in
-    cut_short _ s _ _ _ p w l c.if-length-place.false (rw (← e) c.if-limit-count.false) (rw (← e) (omega arith))
+pub returns-in_err-require-3 : goal.returns-in_err-require-3
+returns-in_err-require-3 c s p w l =
+    let on = c.from_residual-in_err-require-3 in
+    outcome_on on.result _ on.ensures.1 (cut_short _ s _ _ _ p w l c.in_ok-require.ensures.faults c.in_ok-require-2.ensures.faults c.in_err-require-3.ensures.faults)
 
 pub returns : goal.returns
-returns c s p w l =
-    let e = c.index-count.ensures.0 in
-    rw e (section_is _ s _ _ _ p w l c.if-length-place.false (rw (← e) c.if-limit-count.false) (rw (← e) (omega arith)))
+returns c s p w l = section_is _ s _ _ _ p w l c.in_ok-require.ensures.faults c.in_ok-require-2.ensures.faults c.in_ok-require-3.ensures.faults
