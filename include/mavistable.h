@@ -3,7 +3,7 @@
    links without the others.
    All calls work on any words, allocate nothing, keep no state and may run on several threads.
    Stack: 6 KiB are enough for mavistable_check, 44 KiB for mavistable_run, 46 KiB for mavistable_explain and 30 KiB for mavistable_run_bare, whatever the
-   table. On x86-64 they took 5,656, 44,144, 46,512 and 25,904 bytes at the deepest tables. A run has at most one call open for each node on a path
+   table. On x86-64 they took 5,736, 44,144, 46,608 and 25,872 bytes at the deepest tables. A run has at most one call open for each node on a path
    downwards, and no path has more than 512 nodes: there are no more, and a node's children have smaller numbers than it has. */
 #ifndef MAVISTABLE_H
 #define MAVISTABLE_H

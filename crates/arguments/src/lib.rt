@@ -13,7 +13,7 @@ use layout::{Fault, Refusal, Section, require};
 fn fits(of_type: u32, input: u32) -> bool
     ensures { result ≡ (eqb of_type 0 || eqb input 0) }
 {
-    of_type == 0 || input == 0
+    of_type == layout::of_type::INT || input == 0
 }
 
 // The first pointer whose input is not 0 is refused.

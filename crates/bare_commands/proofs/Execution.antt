@@ -9,8 +9,9 @@ use Rattle.std.specs.Prelude.{Result, Ok, Err, ⊤}
 use Rattle.semantics.specs.Words.{Words, word}
 use Rattle.semantics.specs.Table.{variables, commands, count}
 use Rattle.semantics.specs.Bare.{State, command, Ending, done, out_of_memory, stuck, ended, after_command, then_command, commands_below, ending}
+use Rattle.layout.specs.declared.Section.{Section}
 use Rattle.lookups.specs.declared.Lists.{Lists}
-use Rattle.lookups.proofs.Commands.{command_words, place_is, value_is, command_nodes}
+use Rattle.lookups.proofs.Commands.{place_named, value_named, nodes_named}
 use Rattle.bare_steps.specs.declared.Halt.{Halt}
 use Rattle.bare_steps.specs.declared.Halt.TheVariants as halt
 use Rattle.bare_steps.specs.Answers.{outcome_of}
@@ -51,29 +52,25 @@ executed : (t : Words) (s₀ : State) {s : State} {m : Words} (e : Ending) (r : 
     → commands_below t (count t commands) s₀ ≡ ended e s → Executed t s₀.values s₀.unused r m
 executed t s₀ e r same h runs = record { is = rw (runs, h, same) }
 
--- The words of a command stand in the table.
-pub command_inside : {t : Words} {l : Lists} {at total c : ℕ} {m : Words} → Executable t l at total m → c < total → at + 2 * c + 1 < length t
-command_inside x less = (command_words x.lists_of x.first x.all _ less).2
-
 -- All commands are done.
 pub all_done : {t : Words} {s₀ s : State} {c : ℕ} {m : Words} → SoFar t s₀ s c → c ≡ count t commands → m ≡ s.values → Executed t s₀.values s₀.unused (Done s.unused) m
 all_done {t} {s₀} far h same = executed t s₀ done (Done _) same refl (rw h at far.runs)
 
-module _ {t : Words} {l : Lists} {s₀ s : State} {at total c p v : ℕ} (x : Executable t l at total s₀.values) (far : SoFar t s₀ s c) (less : c < total) (hp : p ≡ word t (at + 2 * c)) (hv : v ≡ word t (at + 2 * c + 1)) where
-  pub command_ready : CommandReady l s p v
+module _ {t : Words} {l : Lists} {k : Section} {s₀ s : State} {c : ℕ} (x : Executable t l k s₀.values) (far : SoFar t s₀ s c) (less : c < k.count) (e : Words) (same : (j : ℕ) → j < 2 → word e j ≡ word t (k.at + 2 * c + j)) where
+  pub command_ready : CommandReady l s (word e 0) (word e 1)
   command_ready =
       record {
         table = t;
         state = record { vars = count t variables; room = omega (arith, x.room, far.long); most = omega (arith, x.most, far.long) };
-        nodes_are = command_nodes x.lists_of x.first x.all c less hp hv;
+        nodes_are = nodes_named x.stands c e same x.lists_of less;
       }
 
-  module _ {r : Result ⊤ Halt} {s' : State} (answer : CommandAnswered l s p v r s') where
+  module _ {r : Result ⊤ Halt} {s' : State} (answer : CommandAnswered l s (word e 0) (word e 1) r s') where
     outcome : command t c s ≡ outcome_of r s'
     unfolding command
     outcome =
-        rw (← place_is x.lists_of x.first x.all c less hp hv, ← value_is x.lists_of x.first x.all c less hp hv)
-        (answer.meets t (count t variables) (omega (arith, x.room, far.long)) (command_nodes x.lists_of x.first x.all c less hp hv))
+        rw (← place_named x.stands c e same, ← value_named x.stands c e same)
+        (answer.meets t (count t variables) (omega (arith, x.room, far.long)) (nodes_named x.stands c e same x.lists_of less))
 
     -- The run up to this command is what the command's outcome ends it as.
     this_command : commands_below t (suc c) s₀ ≡ after_command c (outcome_of r s')
@@ -85,7 +82,7 @@ module _ {t : Words} {l : Lists} {s₀ s : State} {at total c p v : ℕ} (x : Ex
 
     ended_here : {m : Words} (e : Ending) (a : Ended) → m ≡ s'.values → (e ≡ done → ⊥) → ended_of a ≡ ending e s'.unused → after_command c (outcome_of r s') ≡ ended e s' → Executed t s₀.values s₀.unused a m
     ended_here e a same other told ends =
-        executed t s₀ e a same told (ended_stays t s₀ (suc c) (count t commands) e s' (this_command ∙ ends) other (omega (arith, x.all)))
+        executed t s₀ e a same told (ended_stays t s₀ (suc c) (count t commands) e s' (this_command ∙ ends) other (omega (arith, x.stands.total)))
 
     pub command_full : {m : Words} → r ≡ Err halt.NoRoom → m ≡ s'.values → Executed t s₀.values s₀.unused (NoRoom c s'.unused) m
     command_full is same = ended_here (out_of_memory c) (NoRoom c s'.unused) same (λ q. let z : ◌≡◌ {A = ℕ} 0 1 = cc in omega arith) refl (rw is)

@@ -1,9 +1,11 @@
 -- All commands of a table, without bounds: what they are run from, and how they end.
-use Rattle.std.specs.Prelude.{ℕ, ◌+◌, ◌≤◌, ◌<◌, ◌≡◌, length}
+use Rattle.std.specs.Prelude.{ℕ, ◌≤◌, ◌<◌, ◌≡◌, length}
 use Rattle.semantics.specs.Words.{Words}
-use Rattle.semantics.specs.Table.{variables, commands, count_place, count}
+use Rattle.semantics.specs.Table.{variables, commands, count}
 use Rattle.semantics.specs.Bare as Bare
 use Rattle.semantics.specs.Bare.{ending, done, out_of_memory, stuck, result_of, commands_below}
+use Rattle.layout.specs.Layout.{Stands}
+use Rattle.layout.specs.declared.Section.{Section}
 use Rattle.lookups.specs.declared.Lists.{Lists}
 use Rattle.lookups.specs.Lists.{ListsOf}
 use Rattle.bare_commands.specs.declared.Ended.{Ended}
@@ -15,11 +17,10 @@ ended_of (Done u) = ending done u
 ended_of (NoRoom c u) = ending (out_of_memory c) u
 ended_of (Stuck c u) = ending (stuck c) u
 
--- The commands stand at `at`, l are the table's lists, and the memory m has a word for each variable.
-pub record Executable (t : Words) (l : Lists) (at total : ℕ) (m : Words) : Type 0 where
+-- s is the section of the commands, l are the table's lists, and the memory m has a word for each variable.
+pub record Executable (t : Words) (l : Lists) (s : Section) (m : Words) : Type 0 where
   pub lists_of : ListsOf t l
-  pub first : at ≡ count_place t commands + 1
-  pub all : total ≡ count t commands
+  pub stands : Stands t commands s
   pub room : count t variables < length m
   pub most : length m ≤ 65536
 

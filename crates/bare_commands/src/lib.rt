@@ -8,6 +8,7 @@ ghost use Rattle.bare_commands.specs.Execution.{Executable, Executed};
 
 use bare_evaluator::{assigned, result};
 use bare_steps::{Halt, Memory, number};
+use layout::Section;
 use lookups::Lists;
 
 // How a bare run ended: done with U; out of memory or stuck with command number and U.
@@ -30,21 +31,19 @@ fn command(l: &Lists, m: &mut Memory, p: usize, v: usize) -> Result<(), Halt>
 }
 
 // The commands in order over these values, up to the first that does not end well. Each stands as a place node and a value node. U is `first`.
-pub fn execute(t: &[u32], at: usize, total: u32, l: &Lists, first: u32, values: &mut [u32]) -> Ended
-    requires { Executable t.now l.now at total values.old }
+pub fn execute(t: &[u32], commands: Section, l: &Lists, first: u32, values: &mut [u32]) -> Ended
+    requires { Executable t.now l.now commands values.old }
     ensures { Executed t.now values.old first result values.new }
 {
     let mut m = Memory {
         values,
         unused: first,
     };
-    // By number: an ending tells the number of its command.
-    for c in 0..total {
-        let k = at + 2 * c as usize;
-        match command(l, &mut m, t[k] as usize, t[k + 1] as usize) {
+    for (c, &[p, v]) in commands.entries::<2>(t).iter().enumerate() {
+        match command(l, &mut m, p as usize, v as usize) {
             Ok(()) => {}
-            Err(Halt::NoRoom) => return Ended::NoRoom(c, m.unused),
-            Err(Halt::Stuck) => return Ended::Stuck(c, m.unused),
+            Err(Halt::NoRoom) => return Ended::NoRoom(c as u32, m.unused),
+            Err(Halt::Stuck) => return Ended::Stuck(c as u32, m.unused),
         }
     }
     Ended::Done(m.unused)

@@ -28,9 +28,10 @@ use Rattle.steps.specs.declared.FailedCheck.{FailedCheck}
 use Rattle.steps.specs.declared.Halt.{Halt}
 use Rattle.steps.specs.declared.Memory.{Memory}
 use Rattle.steps.specs.declared.Slots.{Slots}
+use Rattle.layout.specs.declared.Section.{Section}
 use Rattle.lookups.specs.declared.Lists.{Lists}
 use Rattle.lookups.specs.Nodes.{CommandNodes}
-use Rattle.lookups.proofs.Commands as the
+use Rattle.lookups.proofs.Commands.{place_named, value_named, nodes_named}
 use Rattle.commands.specs.Command.{CommandReady, CommandAnswered, number_of, DoneIs}
 use Rattle.commands.specs.Execution.{ending_of, Content, lists, state_with, Starts, Executable, Tells, tells_done, tells_abort, tells_no_room, Ends, Executed}
 use Rattle.commands.specs.declared.Ending.{Ending}
@@ -92,37 +93,33 @@ pub all_done : {t : Words} {m₀ : Content} {u₀ w : ℕ} {m : Memory} {o : Con
     → Executed t m₀ u₀ w (Done s.unused) o
 all_done far h left = record { meets = λ log inv. let here = far.reached log inv in executed _ _ _ done here.log (Done _) left refl tells_done (rw h at here.runs) }
 
-module _ {t : Words} {l : Lists} {m₀ : Content} {at total u₀ w : ℕ} (x : Executable t l at total u₀ w m₀) where
+module _ {t : Words} {l : Lists} {m₀ : Content} {k : Section} {u₀ w : ℕ} (x : Executable t l k u₀ w m₀) where
   ok : Passed t
   ok = x.lists_of.passed
 
-  -- Where the two words of command c stand.
-  pub command_words : (c : ℕ) → c < total → (command_place t c ≡ word t (at + 2 * c)) × (command_value t c ≡ word t (at + 2 * c + 1)) × (at + 2 * c + 1 < length t)
-  command_words c h = the.command_words x.lists_of x.first x.all c h
-
-  module _ {m : Memory} (s : Slots) {c : ℕ} (far : SoFar t m₀ u₀ w m s c) (less : c < total) where
+  module _ {m : Memory} (s : Slots) {c : ℕ} (far : SoFar t m₀ u₀ w m s c) (less : c < k.count) where
     -- The state that command c is run from, after a begin with this log.
     module _ {log : List Event} (inv : Starts t m₀ u₀ log) where
       abbrev log_here : List Event
       log_here = (far.reached log inv).log
 
       state_inv : Inv (count t variables) (length m₀.values) (state_of m s.unused log_here)
-      state_inv = (rw (far.reached log inv).runs at (commands_ok ok (state_with m₀ u₀ log) inv c (omega (arith, x.all)))).inv
+      state_inv = (rw (far.reached log inv).runs at (commands_ok ok (state_with m₀ u₀ log) inv c (omega (arith, x.stands.total)))).inv
 
       stands_here : Stands (count t variables) w m s log_here
       stands_here = record { inv = own_length state_inv; watches = (far.reached log inv).watches }
 
-    module _ {p v : ℕ} (hp : p ≡ word t (at + 2 * c)) (hv : v ≡ word t (at + 2 * c + 1)) where
-      place_is : p ≡ command_place t c
-      place_is = the.place_is x.lists_of x.first x.all c less hp hv
+    module _ (e : Words) (same : (j : ℕ) → j < 2 → word e j ≡ word t (k.at + 2 * c + j)) where
+      place_is : word e 0 ≡ command_place t c
+      place_is = place_named x.stands c e same
 
-      value_is : v ≡ command_value t c
-      value_is = the.value_is x.lists_of x.first x.all c less hp hv
+      value_is : word e 1 ≡ command_value t c
+      value_is = value_named x.stands c e same
 
-      command_nodes : CommandNodes t l p v (count t variables)
-      command_nodes = the.command_nodes x.lists_of x.first x.all c less hp hv
+      command_nodes : CommandNodes t l (word e 0) (word e 1) (count t variables)
+      command_nodes = nodes_named x.stands c e same x.lists_of less
 
-      pub command_ready : CommandReady l m p v s
+      pub command_ready : CommandReady l m (word e 0) (word e 1) s
       command_ready =
           record {
             table = t;
@@ -130,15 +127,15 @@ module _ {t : Words} {l : Lists} {m₀ : Content} {at total u₀ w : ℕ} (x : E
             nodes_are = command_nodes;
           }
 
-      module _ {r : Result ⊤ Halt} {m' : Memory} {s' : Slots} (answer : CommandAnswered l m p v s r m' s') where
+      module _ {r : Result ⊤ Halt} {m' : Memory} {s' : Slots} (answer : CommandAnswered l m (word e 0) (word e 1) s r m' s') where
         module _ {log : List Event} (inv : Starts t m₀ u₀ log) where
           -- The outcome of command c.
           abbrev result : Outcome (Unit {0})
-          result = assign (moves_bounds (edition t) (node_type t v)) (place_of t p) (value_of t v) (state_of m s.unused (log_here inv))
+          result = assign (moves_bounds (edition t) (node_type t (word e 1))) (place_of t (word e 0)) (value_of t (word e 1)) (state_of m s.unused (log_here inv))
 
           this_command : commands_below t (suc c) (state_with m₀ u₀ log) ≡ after_command c result
           unfolding commands_below command
-          this_command = rw ((far.reached log inv).runs, (command_ok ok c (omega (arith, x.all))).same_type, place_is, value_is)
+          this_command = rw ((far.reached log inv).runs, (command_ok ok c (omega (arith, x.stands.total))).same_type, place_is, value_is)
 
           -- What was answered for it.
           outcome : Answers DoneIs w m' (number_of r) s' result
@@ -147,13 +144,13 @@ module _ {t : Words} {l : Lists} {m₀ : Content} {at total u₀ w : ℕ} (x : E
           -- It is the rules' command, from the state that those before it left.
           same_command : command t c (commands_below t c (state_with m₀ u₀ log)).state ≡ result
           unfolding command
-          same_command = rw ((far.reached log inv).runs, (command_ok ok c (omega (arith, x.all))).same_type, place_is, value_is)
+          same_command = rw ((far.reached log inv).runs, (command_ok ok c (omega (arith, x.stands.total))).same_type, place_is, value_is)
 
           -- The run has ended at this command.
           ended_here : {o : Content} → Holds m' o → (e : semantics.Ending) (a : Ending FailedCheck) (log' : List Event) → (e ≡ done → ⊥) → ending_of a ≡ ending e s'.unused → Tells t w (state_with m₀ u₀ log) (ended e (state_of m' s'.unused log')) a
               → commands_below t (suc c) (state_with m₀ u₀ log) ≡ ended e (state_of m' s'.unused log')
               → Ends t w (state_with m₀ u₀ log) (commands_below t (count t commands) (state_with m₀ u₀ log)) a o
-          ended_here left e a log' other h told runs = executed t w _ e log' a left h told (ended_stays t _ (suc c) (count t commands) e _ runs other (omega (arith, x.all)))
+          ended_here left e a log' other h told runs = executed t w _ e log' a left h told (ended_stays t _ (suc c) (count t commands) e _ runs other (omega (arith, x.stands.total)))
 
         pub command_goes_on : number_of r < failed → SoFar t m₀ u₀ w m' s' (c + 1)
         command_goes_on under = record { reached = λ log inv. go log (outcome inv) (this_command inv) }

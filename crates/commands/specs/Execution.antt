@@ -1,12 +1,14 @@
 -- All commands of a table: what they are run from, and how they end.
-use Rattle.std.specs.Prelude.{ℕ, ◌+◌, ◌≤◌, ◌≡◌, List, length}
+use Rattle.std.specs.Prelude.{ℕ, ◌≤◌, ◌≡◌, List, length}
 use Rattle.semantics.specs.Words.{Words}
-use Rattle.semantics.specs.Table.{variables, commands, count_place, count}
+use Rattle.semantics.specs.Table.{variables, commands, count}
 use Rattle.semantics.specs.Rules.{Event, State, fails}
 use Rattle.semantics.specs.Run as semantics
 use Rattle.semantics.specs.Run.{command, ending, done, abort, out_of_memory, Run, result_of, commands_below}
 use Rattle.semantics.specs.Explain.{block_start}
 use Rattle.semantics.proofs.Invariant.{Inv}
+use Rattle.layout.specs.Layout.{Stands}
+use Rattle.layout.specs.declared.Section.{Section}
 use Rattle.lookups.specs.declared.Lists.{Lists}
 use Rattle.lookups.specs.Lists.{ListsOf}
 use Rattle.steps.specs.Answers.{check_told}
@@ -36,12 +38,11 @@ state_with m u log = record { values = m.values; bases = m.bases; ends = m.ends;
 abbrev pub Starts : Words → Content → ℕ → List Event → Type 0
 Starts t m u log = Inv (count t variables) (length m.values) (state_with m u log)
 
--- The commands stand at `at`, l are the table's lists, and the memory holds a state that a run of the table can begin with. Word w, which no block
+-- s is the section of the commands, l are the table's lists, and the memory holds a state that a run of the table can begin with. Word w, which no block
 -- has yet, is watched for; it is the memory's length where nothing is to be found.
-pub record Executable (t : Words) (l : Lists) (at total u w : ℕ) (m : Content) : Type 0 where
+pub record Executable (t : Words) (l : Lists) (s : Section) (u w : ℕ) (m : Content) : Type 0 where
   pub lists_of : ListsOf t l
-  pub first : at ≡ count_place t commands + 1
-  pub all : total ≡ count t commands
+  pub stands : Stands t commands s
   pub log : List Event
   pub inv : Starts t m u log
   pub most : length m.values ≤ 65536

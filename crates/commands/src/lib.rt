@@ -7,6 +7,7 @@ ghost use Rattle.commands.specs.Command.{CommandReady, Stored, CommandAnswered};
 ghost use Rattle.commands.specs.Execution.{lists, Executable, Executed};
 
 use evaluator::{assigned, result};
+use layout::Section;
 use lookups::Lists;
 use steps::{FailedCheck, Halt, Memory, Slots, worked_out};
 
@@ -49,8 +50,7 @@ fn command(l: &Lists, m: &mut Memory, p: usize, v: usize, s: &mut Slots) -> Resu
 // will have the word `watched` is looked for.
 pub fn execute(
     t: &[u32],
-    at: usize,
-    total: u32,
+    commands: Section,
     l: &Lists,
     first: u32,
     watched: u32,
@@ -58,7 +58,7 @@ pub fn execute(
     bases: &mut [u32],
     ends: &mut [u32],
 ) -> Ending<FailedCheck>
-    requires { Executable t.now l.now at total first watched (lists values.old bases.old ends.old) }
+    requires { Executable t.now l.now commands first watched (lists values.old bases.old ends.old) }
     ensures { Executed t.now (lists values.old bases.old ends.old) first watched result (lists values.new bases.new ends.new) }
 {
     let mut m = Memory {
@@ -71,13 +71,11 @@ pub fn execute(
         limit: watched,
         ..Slots::default()
     };
-    // By number: an ending tells the number of its command.
-    for c in 0..total {
-        let k = at + 2 * c as usize;
-        match command(l, &mut m, t[k] as usize, t[k + 1] as usize, &mut s) {
+    for (c, &[p, v]) in commands.entries::<2>(t).iter().enumerate() {
+        match command(l, &mut m, p as usize, v as usize, &mut s) {
             Ok(()) => {}
-            Err(Halt::Failed) => return Ending::Abort(c, s.unused, s.failure()),
-            Err(Halt::NoRoom) => return Ending::NoRoom(c, s.unused),
+            Err(Halt::Failed) => return Ending::Abort(c as u32, s.unused, s.failure()),
+            Err(Halt::NoRoom) => return Ending::NoRoom(c as u32, s.unused),
         }
     }
     Ending::Done(s.unused)

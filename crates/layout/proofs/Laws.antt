@@ -50,10 +50,6 @@ outcome_on r e h q = ap outcome_of (handed_on r e h) ∙ q
 pub verdict_on : (r : Result ⊤ Refusal) (e : Refusal) {v : Verdict} → IsErrAnd r (λ d. d ≡ e) → refused (number_of e.fault) e.place ≡ v → verdict_of r ≡ v
 verdict_on r e h q = ap verdict_of (handed_on r e h) ∙ q
 
--- What an answer that a `match` has told apart says of the verdict.
-pub told_as : {r r' : Result ⊤ Refusal} {v : Verdict} → verdict_of r ≡ v → r ≡ r' → verdict_of r' ≡ v
-told_as e q = ap verdict_of (sym q) ∙ e
-
 module _ (f : ℕ → Verdict) (i : ℕ) (before : each i f ≡ passes) where
   -- A turn that passes.
   pub each_more : f i ≡ passes → each (i + 1) f ≡ passes

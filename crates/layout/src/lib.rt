@@ -71,6 +71,15 @@ pub mod kind {
     pub const COPY: u32 = 11;
 }
 
+// Types: int, then the pointer to void, then the pointer entries. Numbers, since a type is a word of the table.
+pub mod of_type {
+    pub const INT: u32 = 0;
+
+    pub const VOID: u32 = 1;
+
+    pub const ENTRY: u32 = 2;
+}
+
 // The bits of a node's note. Types are below the lowest. In one word a node, of which each question is one test: a run looks at one for each child.
 pub mod note {
     // A value that is neither a constant nor the read of a variable.
@@ -226,7 +235,7 @@ impl Table {
     pub const COMMANDS: usize = 256;
 
     // Types: int, the pointer to void, and the pointer entries.
-    pub const TYPES: usize = 2 + Table::POINTERS;
+    pub const TYPES: usize = of_type::ENTRY as usize + Table::POINTERS;
 
     pub const FIELD_WORDS: u32 = 4096;
 
@@ -263,7 +272,7 @@ pub fn known_type(pointers: usize, x: u32) -> bool
     requires { pointers ≤ 64 }
     ensures { (t : Words) → pointers ≡ count t 2 → result ≡ known_type t x }
 {
-    (x as usize) < 2 + pointers
+    (x as usize) < of_type::ENTRY as usize + pointers
 }
 
 // x is a known type, or 65,536 + the number of a record.
@@ -362,7 +371,7 @@ fn check_pointers(
         require(known, Fault::UnknownType, place)?;
         let slot = target_slot(target);
         require(entry[slot] == 0, Fault::SameTarget, place)?;
-        entry[slot] = 2 + i as u32;
+        entry[slot] = of_type::ENTRY + i as u32;
     }
     Ok(())
 }

@@ -9,9 +9,6 @@ use Rattle.text.specs.declared.Output.{Output}
 use Rattle.stream.specs.Items.{Item, Prints, item_room, room_of}
 use Rattle.lines.specs.Lines.{ending_line, word_line}
 
-pub same_items : {ps qs : List Item} {out out' : Output} → ps ≡ qs → Prints ps out out' → Prints qs out out'
-same_items e h = rw e at h
-
 -- ---- the room that the lines take
 
 pub word_room : (address value base end : ℕ) → room_of (word_line address value base end) ≡ 84

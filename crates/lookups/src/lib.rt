@@ -7,7 +7,7 @@ ghost use Rattle.semantics.specs.Table.{known_type, known_target, target, pointe
 ghost use Rattle.semantics.specs.Syntax.{step_of};
 ghost use Rattle.lookups.specs.Lists.{part, pointer_by_type, drops_bounds, FieldNode, FieldReady, KnownWord, KnownReady};
 
-use layout::{Table, note};
+use layout::{Table, note, of_type};
 
 // The lists of a table: its nodes, their notes, the targets of its pointers, its fields, the first field of each record, the size of each
 // record, and the offset of each field. It is lent on, so that it travels through evaluation as one pointer.
@@ -117,7 +117,7 @@ impl Lists<'_> {
         requires { (KnownReady known_type self.now of) × (2 ≤ of) }
         ensures { (t : Words) → KnownWord known_type t self.now of → result ≡ target t of }
     {
-        self.targets[of as usize - 2]
+        self.targets[of as usize - of_type::ENTRY as usize]
     }
 
     // The record that the child of node n, a field, points to.
@@ -168,7 +168,7 @@ impl Lists<'_> {
         requires { KnownReady known_type self.now of }
         ensures { (t : Words) → KnownWord known_type t self.now of → result ≡ step_of t of }
     {
-        if of < 2 {
+        if of < of_type::ENTRY {
             return 1;
         }
         self.size_of(self.target(of))

@@ -1,5 +1,6 @@
 -- What is told of an abort: from a first call, if its bounds lie in a variable or a register, else from a second.
-use Rattle.std.specs.Prelude.{Result, Ok}
+use Rattle.std.specs.Prelude.{Option, None, Some, Result, Ok}
+use Rattle.std.proofs.lemmas.Option.{none-some, same_Some}
 use Prim.Native.Nat.{ℕ, ◌+◌, ◌≤◌, ◌<◌}
 use mathlib.Core.Bool.{true, false}
 use mathlib.Core.Path.{◌≡◌, refl, sym, ap, ◌∙◌}
@@ -145,14 +146,14 @@ module _ {t inputs registers vs bs es : Words} where
       unfolding first_word
       of_blocks more = first_is ∙ rw (bounded, ← base_is, lt-leb x.base (count t variables) more)
 
-      pub declared_told : (x' : Cause) {f : ℕ} → Declared (length inputs) registers x.base f → (f ≡ 0 → ⊥) → cause_told x' ≡ starting_at f (cause_told x)
+      pub declared_told : (x' : Cause) {d : Option ℕ} {f : ℕ} → Declared (length inputs) registers x.base d → d ≡ Some f → cause_told x' ≡ starting_at f (cause_told x)
           → explained_of (Ok (Abort c u x')) v₁ b₁ e₁ ≡ explain t inputs registers vs bs es
-      declared_told x' (of_variable less) other e = first_told x' e (sym (of_variables (omega (arith, b.lists.inputs_length))))
-      declared_told x' (of_register more (in_register i less from upto)) other e =
+      declared_told x' (of_variable less) q e = first_told x' e (sym (same_Some _ _ q) ∙ sym (of_variables (omega (arith, b.lists.inputs_length))))
+      declared_told x' (of_register more (in_register i less from upto)) q e =
           let first : length inputs + 1 ≡ 1 + count t variables = omega (arith, b.lists.inputs_length) in
           let start = ap (λ k. register_start k registers i) first in
-          first_told x' e (start ∙ sym (of_blocks (omega (arith, b.lists.inputs_length)) ∙ register_block_start t inputs registers vs bs es not_refused i x.base less (omega (arith, start)) (omega (arith, start))))
-      declared_told x' (of_register more (past_all from)) other e = absurd (other refl)
+          first_told x' e (sym (same_Some _ _ q) ∙ start ∙ sym (of_blocks (omega (arith, b.lists.inputs_length)) ∙ register_block_start t inputs registers vs bs es not_refused i x.base less (omega (arith, start)) (omega (arith, start))))
+      declared_told x' (of_register more (past_all from)) q e = absurd (none-some _ q)
 
       -- ---- a block: the second call
 
@@ -160,10 +161,10 @@ module _ {t inputs registers vs bs es : Words} where
       unfolding begin cleared register_start
       begin_unused = omega (arith, registers_unused registers (register_count registers) (cleared t inputs (length vs)), b.lists.inputs_length)
 
-      past : {f : ℕ} → Declared (length inputs) registers x.base f → f ≡ 0 → ((begin t inputs registers (length vs)).unused ≤ x.base) × (count t variables < x.base)
+      past : {d : Option ℕ} → Declared (length inputs) registers x.base d → d ≡ None → ((begin t inputs registers (length vs)).unused ≤ x.base) × (count t variables < x.base)
       unfolding register_start
-      past (of_variable less) e = absurd (omega (arith, inside))
-      past (of_register more (in_register i less from upto)) e = absurd (omega arith)
+      past (of_variable less) e = absurd (none-some _ (sym e))
+      past (of_register more (in_register i less from upto)) e = absurd (none-some _ (sym e))
       past (of_register more (past_all from)) e = (omega (arith, begin_unused, from), omega (arith, b.lists.inputs_length))
 
       record SameLengths : Type 0 where
@@ -182,10 +183,10 @@ module _ {t inputs registers vs bs es : Words} where
             ends = ap (λ y. length y.ends) r ∙ inv.ends_length ∙ b.lists.same_ends;
           }
 
-      module _ {f w' : ℕ} (declared : Declared (length inputs) registers x.base f) (zero : f ≡ 0) (e : w' ≡ x.base) where
+      module _ {d : Option ℕ} {w' : ℕ} (declared : Declared (length inputs) registers x.base d) (none : d ≡ None) (e : w' ≡ x.base) where
         pub second_watchable : Watchable w' t inputs registers v₁ b₁ e₁
         second_watchable =
-            record { room = λ q. rw (same_lengths.values, e) ((past declared zero).0, omega (arith, inside)) }
+            record { room = λ q. rw (same_lengths.values, e) ((past declared none).0, omega (arith, inside)) }
 
         -- What the first call left is as long, so the second has the same run.
         same_call : call t inputs registers v₁ b₁ e₁ ≡ call t inputs registers vs bs es
@@ -198,7 +199,7 @@ module _ {t inputs registers vs bs es : Words} where
 
         pub second_told : {r : Result (Ending Cause) Refusal} {v₂ b₂ e₂ : Words} → Called w' t inputs registers v₁ b₁ e₁ r v₂ b₂ e₂ → explained_of r v₂ b₂ e₂ ≡ explain t inputs registers vs bs es
         second_told {r} {v₂} {b₂} {e₂} g =
-            let first : block_start log w' ≡ told.cause.first = ap (block_start log) e ∙ sym (of_blocks (past declared zero).1) in
+            let first : block_start log w' ≡ told.cause.first = ap (block_start log) e ∙ sym (of_blocks (past declared none).1) in
             let whole : started (block_start log w') (explain t inputs registers vs bs es).explanation ≡ (explain t inputs registers vs bs es).explanation =
             ap (started (block_start log w')) told.is ∙ ap (λ n. because (starting_at n told.cause)) first ∙ sym told.is in
             rw (same_lengths.values, same_call, same_explanation, whole) at g.is ∙ both_parts t inputs registers vs bs es

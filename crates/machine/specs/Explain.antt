@@ -1,6 +1,6 @@
 -- A whole call whose abort is explained: the answer as the numbers and values of request 4. Beside it a word may be watched for, to find the
 -- block that has it.
-use Rattle.std.specs.Prelude.{ℕ, ◌+◌, ◌≤◌, ◌<◌, ◌≡◌, List, Result, Ok, Err, length}
+use Rattle.std.specs.Prelude.{ℕ, ◌+◌, ◌≤◌, ◌<◌, ◌≡◌, List, Option, Some, Result, Ok, Err, length}
 use Rattle.semantics.specs.Words.{Words}
 use Rattle.semantics.specs.Table.{variables, commands, count}
 use Rattle.semantics.specs.Check.{passes, call_fault}
@@ -60,10 +60,10 @@ abbrev pub started : ℕ → Explanation → Explanation
 started n not_aborted = not_aborted
 started n (because x) = because (starting_at n x)
 
--- Word w is a variable's, with this many, or a register's, and this is the first word of the one that has it; or it is past all of them.
-pub data Declared (vars : ℕ) (l : Words) (w : ℕ) : ℕ → Type 0 where
-  of_variable : w ≤ vars → Declared vars l w w
-  of_register : {first : ℕ} → vars < w → RegisterOf l (vars + 1) w first → Declared vars l w first
+-- Word w is a variable's, with this many, or a register's, and this is the first word of the one that has it; or it is past all of them, and there is none.
+pub data Declared (vars : ℕ) (l : Words) (w : ℕ) : Option ℕ → Type 0 where
+  of_variable : w ≤ vars → Declared vars l w (Some w)
+  of_register : {first : Option ℕ} → vars < w → RegisterOf l (vars + 1) w first → Declared vars l w first
 
 -- What a run's ending says.
 abbrev pub ended_because : Ending FailedCheck → Explanation

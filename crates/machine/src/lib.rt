@@ -195,11 +195,9 @@ fn run_commands(
     requires { Startable p.now.t.now unused watched values.old bases.old ends.old }
     ensures { Executed p.now.t.now values.old bases.old ends.old unused watched result values.new bases.new ends.new }
 {
-    let commands = p.layout.commands;
     told(commands::execute(
         p.t,
-        commands.at,
-        commands.count as u32,
+        p.layout.commands,
         &p.lists(),
         unused,
         watched,
@@ -290,13 +288,13 @@ pub fn run(
     Ok(without_cause(ended))
 }
 
-// The first word of the variable or register that has word w, which is not 0, with this many variables; or 0.
-fn declared_start(variables: usize, registers: &[u32], w: u32) -> u32
+// The first word of the variable or register that has word w, which is not 0, with this many variables; none where w is past them.
+fn declared_start(variables: usize, registers: &[u32], w: u32) -> Option<u32>
     requires { Whole registers.now }
     ensures { Declared variables registers.now w result }
 {
     if w as usize <= variables {
-        return w;
+        return Some(w);
     }
     start_of(registers, variables + 1, w as usize)
 }
@@ -321,8 +319,7 @@ fn call_explained(
     if let Reason::NoBounds = x.reason {
         return Ok(ended);
     }
-    let first = declared_start(inputs.len(), registers, x.base);
-    if first != 0 {
+    if let Some(first) = declared_start(inputs.len(), registers, x.base) {
         return Ok(Ending::Abort(command, unused, Cause { first, ..x }));
     }
     call(t, inputs, registers, x.base as usize, values, bases, ends)
@@ -362,15 +359,7 @@ fn run_bare_commands(p: &Program, unused: u32, values: &mut [u32]) -> bare_comma
     requires { StartableBare p.now.t.now values.old }
     ensures { ExecutedBare p.now.t.now values.old unused result values.new }
 {
-    let commands = p.layout.commands;
-    bare_commands::execute(
-        p.t,
-        commands.at,
-        commands.count as u32,
-        &p.lists(),
-        unused,
-        values,
-    )
+    bare_commands::execute(p.t, p.layout.commands, &p.lists(), unused, values)
 }
 
 // The rest of a bare call, for a table that passed the check.

@@ -3,7 +3,6 @@ use Prim.Native.Nat.{ℕ, ◌+◌, ◌/◌, ◌≤◌, ◌<◌, ◌%◌}
 use mathlib.Core.Bool.{Bool, true, false, not, ◌||◌, true≢false}
 use mathlib.Core.Path.{◌≡◌, refl, sym, ◌∙◌}
 use native.Mathlib.Omega.{arith}
-use native.Mathlib.Nat.{le_antisymm}
 use native.Mathlib.Decide.{dec_lt, ℕ_discrete}
 use borrow.Author.Tests.{lt-ltb, le-ltb, lt-leb, le-leb, ltb-true, eqb-true, ne_eqb}
 use lib.Dec.{leb, ltb, eqb}
@@ -12,7 +11,6 @@ use Rattle.semantics.specs.Words.{Words, word}
 use Rattle.semantics.specs.Table.{edition_1, nodes, item, known_type, variable, read, unknown, kinds, kind_of, Sort, place, value, neither, sort_of, node_kind, types_below, node_type}
 use Rattle.semantics.specs.Check.{passes, ◌or_else◌, require, each, same_sort, is_child, node_fault}
 use Rattle.semantics.proofs.Passed.{or_else_passes, require_passes, each_passes}
-use Rattle.semantics.proofs.Tests.{past}
 use Rattle.semantics.proofs.Trees.{types_at, types_known}
 use Rattle.layout.specs.Notes.{bits, note}
 use Rattle.layout.proofs.Notes.{type_noted, variable_noted, place_noted, place_high}
@@ -29,13 +27,6 @@ unknown_low k h = let z : k ≡ 0 = omega arith in rw z
 pub unknown_high : (k : ℕ) → 12 ≤ k → kind_of k ≡ unknown
 unfolding kind_of
 unknown_high k h = get_or-eq_default kinds unknown h
-
--- What is left of each range.
-pub none_before : (k : ℕ) → k < 4 → (k ≡ 1 → ⊥) → (k ≡ 2 → ⊥) → (k ≡ 3 → ⊥) → k < 1
-none_before k l h₁ h₂ h₃ = omega arith
-
-pub last_value : (k : ℕ) → 4 ≤ k → k < 12 → (k ≡ 4 → ⊥) → (k ≡ 5 → ⊥) → (k ≡ 6 → ⊥) → (k ≡ 7 → ⊥) → (k ≡ 8 → ⊥) → (k ≡ 9 → ⊥) → (k ≡ 10 → ⊥) → k ≡ 11
-last_value k h l h₄ h₅ h₆ h₇ h₈ h₉ h₁₀ = le_antisymm (omega arith) (past (past (past (past (past (past (past h h₄) h₅) h₆) h₇) h₈) h₉) h₁₀)
 
 -- Of the kinds only 1 has all the bits of a variable.
 one_variable : ℕ → Bool

@@ -13,14 +13,9 @@ ghost use Rattle.layout.specs.Types.{Marks};
 ghost use Rattle.nodes.specs.Nodes.{sort_named, read_bit, typed_kind, field_found};
 ghost use Rattle.nodes.specs.Promises.{NotedTo, Placed, Reached, Reaches, TargetAt, FieldsAt, Lookups, typed_verdict, Small, Counted, Countable, CountableBoth, Room, Told, Noted};
 
-use layout::{Entries, Fault, Firsts, Notes, Refusal, Section, Table, Uses, kind, note, require};
-
-// Types: int, then the pointer to void, then the pointer entries.
-const INT: u32 = 0;
-
-const VOID: u32 = 1;
-
-const ENTRY: u32 = 2;
+use layout::{
+    Entries, Fault, Firsts, Notes, Refusal, Section, Table, Uses, kind, note, of_type, require,
+};
 
 // What a node is to be where another names it.
 #[derive(Clone, Copy)]
@@ -58,7 +53,7 @@ fn target(t: &[u32], targets: usize, ty: u32) -> u32
     requires { TargetAt t.now targets ty }
     ensures { result ≡ target t.now ty }
 {
-    t[targets + (ty as usize - 2)]
+    t[targets + (ty as usize - of_type::ENTRY as usize)]
 }
 
 // The type of field b of record r, or that it has none, for a node at this place.
@@ -121,7 +116,7 @@ impl Node {
     {
         self.only_child(notes, Sort::Value)?;
         let pointer = type_of(notes, self.a);
-        require(ENTRY <= pointer, Fault::Types, self.place)?;
+        require(of_type::ENTRY <= pointer, Fault::Types, self.place)?;
         let ty = target(t, targets, pointer);
         require(ty < Table::RECORD, Fault::Types, self.place)?;
         Ok(ty)
@@ -144,7 +139,7 @@ impl Node {
             self.place + 1,
         )?;
         let pointer = type_of(notes, self.a);
-        require(ENTRY <= pointer, Fault::Types, self.place)?;
+        require(of_type::ENTRY <= pointer, Fault::Types, self.place)?;
         let pointed = target(t, targets, pointer);
         require(Table::RECORD <= pointed, Fault::Types, self.place)?;
         let record = (pointed - Table::RECORD) as usize;
@@ -155,7 +150,7 @@ impl Node {
         ensures { (t : Words) → Placed t self.now.n self.now.place → outcome_of result ≡ typed_kind t self.now.n constant self.now.a self.now.b }
     {
         require(self.b == 0, Fault::Operand, self.place + 2)?;
-        Ok(INT)
+        Ok(of_type::INT)
     }
 
     fn sum(&self, notes: &Notes) -> Result<u32, Refusal>
@@ -171,7 +166,11 @@ impl Node {
             Fault::Operand,
             self.place + 2,
         )?;
-        require(type_of(notes, self.b) == INT, Fault::Types, self.place)?;
+        require(
+            type_of(notes, self.b) == of_type::INT,
+            Fault::Types,
+            self.place,
+        )?;
         Ok(type_of(notes, self.a))
     }
 
@@ -220,15 +219,19 @@ impl Node {
             self.place + 1,
         )?;
         require(self.b == 0, Fault::Operand, self.place + 2)?;
-        Ok(INT)
+        Ok(of_type::INT)
     }
 
     fn malloc(&self, notes: &Notes) -> Result<u32, Refusal>
         ensures { (t : Words) → Reached t notes.now self.now.n self.now.place → outcome_of result ≡ typed_kind t self.now.n malloc self.now.a self.now.b }
     {
         self.only_child(notes, Sort::Value)?;
-        require(type_of(notes, self.a) == INT, Fault::Types, self.place)?;
-        Ok(VOID)
+        require(
+            type_of(notes, self.a) == of_type::INT,
+            Fault::Types,
+            self.place,
+        )?;
+        Ok(of_type::VOID)
     }
 
     // a and b point to the same record.
@@ -247,14 +250,14 @@ impl Node {
             self.place + 2,
         )?;
         let pointer = type_of(notes, self.a);
-        require(ENTRY <= pointer, Fault::Types, self.place)?;
+        require(of_type::ENTRY <= pointer, Fault::Types, self.place)?;
         require(
             Table::RECORD <= target(t, targets, pointer),
             Fault::Types,
             self.place,
         )?;
         require(pointer == type_of(notes, self.b), Fault::Types, self.place)?;
-        Ok(INT)
+        Ok(of_type::INT)
     }
 }
 

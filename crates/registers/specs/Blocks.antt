@@ -1,5 +1,5 @@
 -- The memory that registers need and leave.
-use Rattle.std.specs.Prelude.{ℕ, ◌+◌, ◌≤◌, ◌<◌, ◌≡◌, [], length, take, drop}
+use Rattle.std.specs.Prelude.{ℕ, ◌+◌, ◌≤◌, ◌<◌, ◌≡◌, Option, None, Some, [], length, take, drop}
 use Rattle.semantics.specs.Words.{Words, word}
 use Rattle.semantics.specs.Table.{variables, count}
 use Rattle.semantics.specs.Registers.{register_count, register_length, register_start}
@@ -58,10 +58,10 @@ pub record AllFit (l : Words) (u : ℕ) (vs bs es : Words) : Type 0 where
   pub inv : Inv (count table variables) (length vs) state
   pub most : length vs ≤ 65536
 
--- Which register has word w, if the first one begins at word `first`: the first word of that register, or 0 where w is past the last.
-pub data RegisterOf (l : Words) (first w : ℕ) : ℕ → Type 0 where
-  in_register : (i : ℕ) → i < register_count l → register_start first l i ≤ w → w < register_start first l i + register_length l i → RegisterOf l first w (register_start first l i)
-  past_all : register_start first l (register_count l) ≤ w → RegisterOf l first w 0
+-- Which register has word w, if the first one begins at word `first`: the first word of that register, or none where w is past the last.
+pub data RegisterOf (l : Words) (first w : ℕ) : Option ℕ → Type 0 where
+  in_register : (i : ℕ) → i < register_count l → register_start first l i ≤ w → w < register_start first l i + register_length l i → RegisterOf l first w (Some (register_start first l i))
+  past_all : register_start first l (register_count l) ≤ w → RegisterOf l first w None
 
 -- ---- without bounds
 

@@ -7,6 +7,7 @@ use Rattle.registers.specs.declared.Register.{Register}
 -- r is register i of the list.
 pub record RegisterAt (l : Words) (i : ℕ) (r : Register) : Type 0 where
   pub before_end : i < register_count l
+  pub number : r.number ≡ i
   pub place : r.place ≡ register_place l i
   pub variable : r.variable ≡ word l r.place
   pub words : r.length ≡ word l (r.place + 1)

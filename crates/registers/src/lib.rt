@@ -13,28 +13,29 @@ ghost use Rattle.layout.specs.Refusals.{verdict_of};
 ghost use Rattle.registers.specs.Walk.{next_register};
 ghost use Rattle.registers.specs.Blocks.{RegisterSet, RegistersSet, Fits, AllFit, RegisterOf, RegisterPlaced, RegistersPlaced, Placeable, AllPlaceable};
 
-use layout::{Fault, Refusal, Section, Table, require};
+use layout::{Fault, Refusal, Section, Table, of_type, require};
 use words::store_all;
 
-// A register of a list: where it stands, the variable that it is handed to, and how many words it has.
+// A register of a list: its number, where it stands, the variable that it is handed to, and how many words it has.
 #[derive(Clone, Copy)]
-struct Register {
-    place: usize,
-    variable: u32,
-    length: u32,
+pub struct Register {
+    pub number: u32,
+    pub place: usize,
+    pub variable: u32,
+    pub length: u32,
 }
 
 // The registers of a whole list in turn: `index` of them have come, and the next one stands at place `at`.
 #[derive(Drop)]
-struct Registers<'a> {
-    list: &'a [u32],
-    index: u32,
-    at: usize,
+pub struct Registers<'a> {
+    pub list: &'a [u32],
+    pub index: u32,
+    pub at: usize,
     ghost stands: { Whole list.now × (index ≤ register_count list.now) × (at ≡ register_place list.now index) },
 }
 
 impl<'a> Registers<'a> {
-    fn of(list: &'a [u32]) -> Registers<'a>
+    pub fn of(list: &'a [u32]) -> Registers<'a>
         requires { Whole list.now }
         ensures { (result.list.now ≡ list.now) × (result.index ≡ 0) }
     {
@@ -57,12 +58,14 @@ impl<'a> Iterator for Registers<'a> {
         if self.index == self.list[0] {
             return None;
         }
+        let number = self.index;
         let place = self.at;
         let variable = self.list[place];
         let length = self.list[place + 1];
         self.index += 1;
         self.at = place + 2 + length as usize;
         Some(Register {
+            number,
             place,
             variable,
             length,
@@ -105,7 +108,7 @@ fn names_pointer(t: &[u32], variables: Section, v: u32) -> bool
     ensures { result ≡ names_pointer t.now v }
 {
     let i = v as usize;
-    i < variables.count && 1 <= t[variables.at + i]
+    i < variables.count && of_type::VOID <= t[variables.at + i]
 }
 
 // Refuses the first register whose variable is unknown, no pointer or named before.
@@ -232,8 +235,8 @@ pub fn place_registers(list: &[u32], first: u32, values: &mut [u32]) -> u32
     at
 }
 
-// The first word of the register that has word w, if the first register begins at word `first`; 0 where w is past the last.
-pub fn start_of(list: &[u32], first: usize, w: usize) -> u32
+// The first word of the register that has word w, if the first register begins at word `first`; none where w is past the last.
+pub fn start_of(list: &[u32], first: usize, w: usize) -> Option<u32>
     requires { (Whole list.now) × (first ≤ w) × (w < 2 ^ 32) }
     ensures { RegisterOf list.now first w result }
 {
@@ -241,9 +244,9 @@ pub fn start_of(list: &[u32], first: usize, w: usize) -> u32
     for register in Registers::of(list) {
         let end = at + register.length as usize;
         if w < end {
-            return at as u32;
+            return Some(at as u32);
         }
         at = end;
     }
-    0
+    None
 }

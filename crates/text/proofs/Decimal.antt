@@ -8,7 +8,7 @@ use native.Mathlib.Omega.{arith}
 use native.Mathlib.Nat.{pow-suc}
 use borrow.Author.Tests.{lt-ltb, le-ltb, ltb-true}
 use lib.Dec.{ltb}
-use lib.ListN.{length, drop, set, length-set, drop_of_length-le}
+use lib.ListN.{length, drop, set, length-set}
 use lib.Seq.{drop-cons, drop-set-lt, get_or-set_same}
 use Rattle.text.specs.Numbers.{limit, holds, separator, digit, digits, value_from, value, number, ◌then◌, numbers_after, numbers}
 use Rattle.text.specs.Decimal.{last_digits, decimal, Written}
@@ -29,9 +29,6 @@ drop_set list i b inside =
 one_digit : (n x : ℕ) → last_digits (suc n) x ≡ (if ltb x 10 then [] else last_digits n (x / 10)) ++ ((48 + x % 10) ∷ [])
 unfolding last_digits
 one_digit n x = refl
-
-pub writing_none : (x : ℕ) (list : List ℕ) → length list ≡ 20 → Writing x list 20 x
-writing_none x list e = record { long = e; rest = rw (drop_of_length-le list {i = 20} (omega arith)) (append-nil (decimal x)) }
 
 -- One digit more is written, at place i.
 digit_written : {x : ℕ} {list : List ℕ} {i y : ℕ} → Writing x list (suc i) y → i < 20 → {b : ℕ} → b ≡ 48 + y % 10

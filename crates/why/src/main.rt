@@ -17,6 +17,7 @@ use cases::{Case, Program, front};
 use commands::Ending;
 use layout::{Refusal, Table, kind};
 use machine::{Cause, Explained, Reason};
+use registers::Registers;
 use steps::Memory;
 use stream::put_after;
 use text::Output;
@@ -34,17 +35,12 @@ fn owner_above(list: &[u32], first: usize, w: u32) -> Owner
     requires { (Whole list.now) × (first ≤ 65) }
     ensures { result ≡ owner_above first list.now w }
 {
-    let count = list[0];
-    // By place, as the definition goes.
-    let mut p = 1;
     let mut end = first;
-    for i in 0..count {
-        let n = list[p + 1] as usize;
-        end += n;
+    for register in Registers::of(list) {
+        end += register.length as usize;
         if (w as usize) < end {
-            return Owner::Register(i, list[p]);
+            return Owner::Register(register.number, register.variable);
         }
-        p += 2 + n;
     }
     Owner::Block(w)
 }

@@ -1,12 +1,12 @@
 -- Lists that a loop fills from some index on with another list; and lists of which a part is stored or cleared.
 use Prim.Native.Nat.{ℕ, suc, ◌+◌, ◌-◌, ◌≤◌, ◌<◌}
 use mathlib.Core.Path.{◌≡◌, refl, sym, ap, ◌∙◌}
-use mathlib.Core.List.{List, [], ◌∷◌, ◌++◌, append_assoc, append-nil}
+use mathlib.Core.List.{List, [], ◌∷◌, ◌++◌, append_assoc}
 use native.Mathlib.Omega.{arith}
 use native.Mathlib.Numerals.{add-one}
 use native.Mathlib.Nat.{add-zero, add-suc, suc-add}
 use lib.ListN.{length, get_or, take, drop, set, replicate, length-append, length-drop, take-append-drop, length-replicate, get_or-replicate}
-use lib.Seq.{sets, ext_get_or, take-suc, length-take-le, take_all, take-length, drop-length, take_at, get_or-drop, drop-drop, length-sets, sets-eq}
+use lib.Seq.{sets, ext_get_or, take-suc, length-take-le, take_all, take_at, get_or-drop, drop-drop, sets-eq}
 
 -- One more store at the end of a run of stores.
 sets_more : (l : List ℕ) (i : ℕ) (xs : List ℕ) (x : ℕ) → sets l i (xs ++ (x ∷ [])) ≡ set (sets l i xs) (i + length xs) x
@@ -19,9 +19,6 @@ pub record Copied (l₀ : List ℕ) (a : ℕ) (xs l : List ℕ) (i : ℕ) : Type
 
 pub copied_none : (l : List ℕ) (a : ℕ) (xs : List ℕ) → Copied l a xs l 0
 copied_none l a xs = record { stores = refl }
-
-pub copied_length : {l₀ : List ℕ} {a : ℕ} {xs l : List ℕ} {i : ℕ} → Copied l₀ a xs l i → length l ≡ length l₀
-copied_length {l₀} {a} {xs} {i = i} h = ap length h.stores ∙ length-sets l₀ a (take i xs)
 
 pub copied_more : {l₀ : List ℕ} {a : ℕ} {xs l : List ℕ} {i : ℕ} → Copied l₀ a xs l i → i < length xs → Copied l₀ a xs (set l (a + i) (get_or xs i 0)) (i + 1)
 copied_more {l₀} {a} {xs} {l} {i} h inside =
@@ -36,10 +33,6 @@ pub copied_all : {l₀ : List ℕ} {a : ℕ} {xs l : List ℕ} {i : ℕ} → Cop
 copied_all {l₀} {a} {xs} {i = i} h all = h.stores ∙ ap (λ ys. sets l₀ a ys) (take_all i xs all)
 
 -- ---- a part of a list
-
--- A part that was lent from index a on came back as zeros.
-pub part_cleared : (l : List ℕ) (a : ℕ) {ys : List ℕ} → ys ≡ replicate (length (take (length l - a) (drop a l))) 0 → take a l ++ (ys ++ drop (length l - a) (drop a l)) ≡ take a l ++ replicate (length l - a) 0
-part_cleared l a h = rw (h, ← (length-drop a l), take-length (drop a l), drop-length (drop a l)) (ap (λ r. take a l ++ r) (append-nil _))
 
 -- A part of n words that was lent from index a on came back as zeros: they are stored there.
 pub part_zeroed : (l : List ℕ) (a n : ℕ) {ys : List ℕ} → a + n ≤ length l → ys ≡ replicate (length (take n (drop a l))) 0 → take a l ++ (ys ++ drop n (drop a l)) ≡ sets l a (replicate n 0)

@@ -17,14 +17,14 @@ returns-in_default c = no_abort c.in_ok-ended.ensures (none_told _ c.in_default.
 pub returns-in-NoBounds : goal.returns-in-NoBounds
 returns-in-NoBounds c = absent_told (rw c.in-Abort.is at c.in_ok-ended.ensures) refl c.in-NoBounds.is
 
-pub declared_start-first-requires : goal.declared_start-first-requires
-declared_start-first-requires c = registers_whole (rw c.in-Abort.is at c.in_ok-ended.ensures)
+pub declared_start-requires : goal.declared_start-requires
+declared_start-requires c = registers_whole (rw c.in-Abort.is at c.in_ok-ended.ensures)
 
-pub returns-then-first-ne0 : goal.returns-then-first-ne0
-returns-then-first-ne0 c = declared_told (rw c.in-Abort.is at c.in_ok-ended.ensures) c.in_default-reason.not-NoBounds _ c.declared_start-first.ensures c.if-first-ne0.true refl
+pub returns-in-Some : goal.returns-in-Some
+returns-in-Some c = declared_told (rw c.in-Abort.is at c.in_ok-ended.ensures) c.in_default-reason.not-NoBounds _ c.declared_start.ensures c.in-Some.is refl
 
 pub call-requires-2 : goal.call-requires-2
-call-requires-2 c = second_watchable (rw c.in-Abort.is at c.in_ok-ended.ensures) c.in_default-reason.not-NoBounds c.declared_start-first.ensures c.if-first-ne0.false refl
+call-requires-2 c = second_watchable (rw c.in-Abort.is at c.in_ok-ended.ensures) c.in_default-reason.not-NoBounds c.declared_start.ensures c.in_default-declared_start.is refl
 
 pub returns : goal.returns
-returns c = second_told (rw c.in-Abort.is at c.in_ok-ended.ensures) c.in_default-reason.not-NoBounds c.declared_start-first.ensures c.if-first-ne0.false refl c.call-2.ensures
+returns c = second_told (rw c.in-Abort.is at c.in_ok-ended.ensures) c.in_default-reason.not-NoBounds c.declared_start.ensures c.in_default-declared_start.is refl c.call-2.ensures

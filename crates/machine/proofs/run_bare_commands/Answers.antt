@@ -1,12 +1,12 @@
 -- The sections stand where the layout says, so that the commands are the table's.
-use Rattle.std.proofs.Common.{arith}
 use Rattle.machine.proofs.Calls.{commands_stand}
 use Rattle.machine.proofs.run_bare_commands.Goals as goal
 
-pub overflow_cast-commands : goal.overflow_cast-commands
-overflow_cast-commands c = omega (arith, (commands_stand c.args.p.now.passed c.args.p.now.laid_out).limited)
-
 pub execute-requires : goal.execute-requires
 execute-requires c =
-    let k = commands_stand c.args.p.now.passed c.args.p.now.laid_out in
-    record { lists_of = c.lists.ensures; first = k.first; all = k.total; room = c.requires.room; most = c.requires.most }
+    record {
+      lists_of = c.lists.ensures;
+      stands = commands_stand c.args.p.now.passed c.args.p.now.laid_out;
+      room = c.requires.room;
+      most = c.requires.most;
+    }
