@@ -4,7 +4,7 @@
 // part the numbers.
 #![tactic(auto)]
 
-ghost use Rattle.std.specs.Prelude.{◌≤◌, length, IfSome};
+ghost use Rattle.std.specs.Prelude.{◌≡◌, ◌≤◌, min, length, IfSome};
 ghost use Rattle.cases.specs.Cases.{Counted, StartsWith, Parsed};
 ghost use Rattle.cases.specs.Lines.{ScansLine};
 
@@ -220,7 +220,9 @@ pub fn for_each_line<Step: FnMut(&[u32])>(
 }
 
 // The first n words of a list: what a case lends of it. A case lends no more words than `Case::WORDS`.
-pub fn front(list: &mut [u32], n: u32) -> &mut [u32] {
+pub fn front(list: &mut [u32], n: u32) -> &mut [u32]
+    ensures { length result.now ≡ min (length list.old) n }
+{
     let n = list.len().min(n as usize);
     &mut list[..n]
 }
