@@ -3,20 +3,21 @@
 
 ghost use Rattle.bench.specs.Input.{Reads, Read, AnswersInput};
 
+use std::ops::ControlFlow;
 use steps::Memory;
 use text::{Output, Scanner};
 
-// Reads once, and scans what came: None at the text's end. A read that fails ends the text as its end does.
-fn read_some(rt: HostRuntime, numbers: &mut [u32], s: Scanner) -> Option<Scanner>
+// Reads once, and scans what came: at the text's end nothing came, and that breaks off. A read that fails ends the text as its end does.
+fn read_some(rt: HostRuntime, numbers: &mut [u32], s: Scanner) -> ControlFlow<Scanner, Scanner>
     ensures { Reads s numbers.old numbers.new result }
 {
     let mut buffer = [0u8; 65536];
     let n = stream::read_some(rt, &mut buffer);
     if n == 0 {
-        return None;
+        return ControlFlow::Break(s);
     }
     let scanned = text::scan(&buffer[..n], numbers, s);
-    Some(scanned)
+    ControlFlow::Continue(scanned)
 }
 
 // Scans standard input. A proved loop has to end, so this one has more turns than a run uses up.
@@ -26,8 +27,8 @@ fn read_all(rt: HostRuntime, numbers: &mut [u32]) -> Scanner
     let mut s = Scanner::new();
     for _ in 0..u64::MAX {
         match read_some(rt, numbers, s) {
-            Some(next) => s = next,
-            None => break,
+            ControlFlow::Continue(next) => s = next,
+            ControlFlow::Break(last) => return last,
         }
     }
     s

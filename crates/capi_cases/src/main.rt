@@ -10,8 +10,9 @@ use steps::Memory;
 use stream::put_after;
 use text::{Output, Scanner};
 
-fn malformed(rt: HostRuntime) {
-    stream::print(rt, b"case\n");
+fn malformed(rt: HostRuntime, out: &mut Output) {
+    out.put_bytes(b"case\n");
+    stream::flush(rt, out);
 }
 
 fn put_verdict(out: &mut Output, v: MavistableVerdict) {
@@ -123,7 +124,7 @@ fn lend<Call: FnOnce(Program, &mut Memory, &mut Output)>(
     let bases = program.bases as usize;
     let ends = program.ends as usize;
     if WORDS < values || WORDS < bases || WORDS < ends {
-        return malformed(rt);
+        return malformed(rt, out);
     }
     let mut memory = Memory {
         values: &mut [7u32; WORDS][..values],
@@ -144,11 +145,11 @@ fn answer_all(rt: HostRuntime, numbers: &[u32], out: &mut Output) {
         left = rest;
     }
     if !left.is_empty() {
-        malformed(rt);
+        malformed(rt, out);
     }
 }
 
-// Standard input has room for 65,536 bytes and 16,384 numbers.
+// Standard input has room for 65,536 bytes and 16,384 numbers. Once it is scanned, what is to be printed stands where it stood.
 fn main(rt: HostRuntime) {
     let mut buffer = [0u8; 65536];
     let mut numbers = [0u32; 16384];
@@ -157,6 +158,5 @@ fn main(rt: HostRuntime) {
     let s = text::finish(&mut numbers, s);
     // 0 where the text is malformed.
     let count = s.count.min(numbers.len());
-    let mut bytes = [0u8; 65536];
-    answer_all(rt, &numbers[..count], &mut Output::new(&mut bytes));
+    answer_all(rt, &numbers[..count], &mut Output::new(&mut buffer));
 }

@@ -5,8 +5,9 @@
 #![tactic(auto)]
 
 ghost use Rattle.std.specs.Prelude.{◌≡◌, ◌≤◌, min, length, IfSome};
+ghost use Rattle.std.specs.Fn.{CalledAt};
 ghost use Rattle.cases.specs.Cases.{Counted, StartsWith, Parsed};
-ghost use Rattle.cases.specs.Lines.{ScansLine};
+ghost use Rattle.cases.specs.Lines.{ScansLine, Taken};
 
 use stream::{Part, PartEnd};
 use text::{Scanner, State};
@@ -195,7 +196,7 @@ pub fn next_line(rt: HostRuntime, buffer: &mut [u8], numbers: &mut [u32], last: 
     finish_line(numbers, p)
 }
 
-// Hands over the numbers of each line of the input.
+// Takes a step at the numbers of each line of the input, one line after the other.
 pub fn for_each_line<Step: FnMut(&[u32])>(
     rt: HostRuntime,
     buffer: &mut [u8],
@@ -203,18 +204,19 @@ pub fn for_each_line<Step: FnMut(&[u32])>(
     step: Step,
 )
     requires { Step.IsAlwaysCallable step }
+    ensures { (last : Step) × Taken (λ p xs q. CalledAt Step.FnMut p xs tt q) (λ xs. length xs ≤ length numbers.old) step last }
 {
     let mut step = step;
     let mut part = Part::new();
     // As in `next_line`.
     for _ in 0..u64::MAX {
-        let line = next_line(rt, buffer, numbers, part);
-        if let Some(count) = line.count {
-            step(&numbers[..count]);
-        }
-        part = line.part;
         if part.end == PartEnd::Last {
             break;
+        }
+        let line = next_line(rt, buffer, numbers, part);
+        part = line.part;
+        if let Some(count) = line.count {
+            step(&numbers[..count]);
         }
     }
 }

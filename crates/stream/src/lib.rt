@@ -119,15 +119,11 @@ pub fn next_part(rt: HostRuntime, buffer: &mut [u8], last: Part, b: u8) -> Part
     cut(&buffer[..n], 0, b)
 }
 
-// Writes some bytes to standard output. A write that fails is given up.
-pub fn print(rt: HostRuntime, bytes: &[u8]) {
-    let _ = rt.stdout().write_all(bytes);
-}
-
-// By the whole output, which is read only: after a loan of its bytes alone, nothing would be known of them.
-fn print_all(rt: HostRuntime, out: &Output) {
+// Writes what is to be printed to standard output. A write that fails is given up.
+// The whole output is lent, to be read only: after a loan of its bytes alone, nothing would be known of them.
+fn print(rt: HostRuntime, out: &Output) {
     if let Some(bytes) = out.bytes.get(..out.at) {
-        print(rt, bytes);
+        let _ = rt.stdout().write_all(bytes);
     }
 }
 
@@ -135,7 +131,7 @@ fn print_all(rt: HostRuntime, out: &Output) {
 pub fn flush(rt: HostRuntime, out: &mut Output)
     ensures { Moves 0 out.old out.new }
 {
-    print_all(rt, out);
+    print(rt, out);
     out.at = 0;
 }
 

@@ -1,5 +1,5 @@
 -- The scanner's steps keep what it knows of the text, and its end tells what the text holds.
-use Rattle.std.specs.Prelude.{if◌then◌else◌}
+use Rattle.std.specs.Prelude.{if◌then◌else◌, Some, None}
 use Prim.Native.Nat.{ℕ, ◌+◌, ◌*◌, ◌-◌, ◌≤◌, ◌<◌}
 use mathlib.Core.Bool.{Bool, true, false, ◌&&◌, false≢true}
 use mathlib.Core.Path.{◌≡◌, refl, sym, ap, ◌∙◌}
@@ -11,7 +11,7 @@ use lib.Dec.{leb, ltb}
 use lib.ListN.{length, take, set, get_or, length-append, length-set}
 use lib.Seq.{take_all, take-suc, length-take-le, take-suc-set}
 use Rattle.text.specs.Numbers.{limit, Contents, holds, malformed, separator, digit, digits, value_from, value, number, prepend, ◌then◌, numbers_after, numbers}
-use Rattle.text.specs.Scan.{within, state_of, Scanned, readable, unreadable, Finished, Finishes, Scans, Held, held, between, within_number, fresh, bad, longer, longer_in, take_digit, end_in, end_number, take_byte, take_bytes}
+use Rattle.text.specs.Scan.{within, state_of, Scanned, readable, unreadable, Finished, Finishes, Scans, Held, held, between, within_number, fresh, bad, longer, value_in, longer_in, take_digit, end_in, end_number, take_byte, take_bytes}
 use Rattle.text.specs.declared.Scanner.{Scanner}
 use Rattle.text.specs.declared.State.{State}
 use Rattle.text.specs.declared.State.TheVariants.{Between, Within, Bad}
@@ -46,6 +46,18 @@ and_false false u q = refl
 
 false_and : (t u : Bool) → t ≡ false → t && u ≡ false
 false_and t u q = rw q
+
+pub longer_some : (t : State) (count b : ℕ) {v : ℕ} → value_in t ≡ Some v → longer count v b ≡ longer_in t count b
+unfolding value_in longer_in
+longer_some Between count b e = cc
+longer_some (Within w) count b e = cc
+longer_some Bad count b e = absurd cc
+
+pub longer_none : (t : State) (count b : ℕ) → value_in t ≡ None → bad ≡ longer_in t count b
+unfolding value_in longer_in
+longer_none Between count b e = absurd cc
+longer_none (Within w) count b e = absurd cc
+longer_none Bad count b e = refl
 
 module _ (count v b : ℕ) where
   pub refused_byte : digit b ≡ false → longer count v b ≡ bad

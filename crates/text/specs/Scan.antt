@@ -1,5 +1,5 @@
 -- The scanner: a text is read in chunks, and each number is stored where it ends.
-use Rattle.std.specs.Prelude.{ℕ, ◌+◌, ◌*◌, ◌-◌, ◌<◌, ◌≤◌, true, ◌&&◌, List, [], ◌∷◌, ◌++◌, ◌≡◌, leb, ltb, length, take, set, if◌then◌else◌}
+use Rattle.std.specs.Prelude.{ℕ, ◌+◌, ◌*◌, ◌-◌, ◌<◌, ◌≤◌, true, ◌&&◌, List, [], ◌∷◌, ◌++◌, ◌≡◌, leb, ltb, length, take, set, Option, Some, None, if◌then◌else◌}
 use Rattle.text.specs.Numbers.{limit, Contents, holds, malformed, separator, digit, digits, value, ◌then◌, numbers_after, numbers}
 use Rattle.text.specs.declared.Scanner.{Scanner}
 use Rattle.text.specs.declared.State.{State}
@@ -53,6 +53,12 @@ bad = record { count = 0; state = Bad }
 -- A byte other than a separator, after digits of value v.
 unfoldable pub longer : (count v b : ℕ) → Scanner
 longer count v b = if digit b && ltb (10 * v + (b - 48)) limit then within_number count (10 * v + (b - 48)) else bad
+
+-- The value of the digits since the last separator, where the text is not malformed.
+unfoldable pub value_in : State → Option ℕ
+value_in Between = Some 0
+value_in (Within v) = Some v
+value_in Bad = None
 
 unfoldable pub longer_in : State → (count b : ℕ) → Scanner
 longer_in Between count b = longer count 0 b

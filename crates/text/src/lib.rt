@@ -3,7 +3,7 @@
 
 ghost use Rattle.std.specs.Prelude.{◌≡◌, ℕ, true, ◌+◌, ◌%◌, List, [], length};
 ghost use Rattle.text.specs.Numbers.{separator, digit};
-ghost use Rattle.text.specs.Scan.{fresh, held, longer, take_digit, take_byte, Scanned, Scans, Finishes};
+ghost use Rattle.text.specs.Scan.{fresh, held, longer, value_in, take_digit, take_byte, Scanned, Scans, Finishes};
 ghost use Rattle.text.specs.Decimal.{decimal, PutsIn, Written};
 
 // What the next byte of a text goes on from.
@@ -77,16 +77,26 @@ impl Scanner {
         }
     }
 
+    // The value of the digits since the last separator; None if the text is malformed.
+    #[tactic(auto, unfolding(crate::specs::Scan::value_in))]
+    fn value(self) -> Option<u32>
+        ensures { result ≡ value_in self.state }
+    {
+        match self.state {
+            State::Within(value) => Some(value),
+            State::Between => Some(0),
+            State::Bad => None,
+        }
+    }
+
     // After a digit.
-    #[tactic(auto, unfolding(crate::specs::Scan::longer_in))]
     fn take_digit(self, b: u8) -> Scanner
         requires { digit b ≡ true }
         ensures { result ≡ take_digit b self }
     {
-        match self.state {
-            State::Within(value) => Scanner::longer(self.count, value, b),
-            State::Between => Scanner::longer(self.count, 0, b),
-            State::Bad => Scanner::bad(),
+        match self.value() {
+            Some(value) => Scanner::longer(self.count, value, b),
+            None => Scanner::bad(),
         }
     }
 }
@@ -156,6 +166,12 @@ impl<'a> Output<'a> {
     {
         let room = self.bytes.len();
         if room < self.at || room - self.at < bytes.len() {
+            return;
+        }
+        // Most pieces are one byte between two numbers: a store, where a copy is a call of the C library.
+        if let [b] = bytes {
+            self.bytes[self.at] = *b;
+            self.at += 1;
             return;
         }
         let end = self.at + bytes.len();

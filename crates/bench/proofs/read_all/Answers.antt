@@ -6,7 +6,7 @@ pub loop-init : goal.loop-init
 loop-init c = record { text = []; scanned = c.new-s.ensures.meets _ }
 
 pub loop-preserved : goal.loop-preserved
-loop-preserved c = read_more c.loop.invariant c.read_some.ensures c.in-Some.is
+loop-preserved c = read_more c.loop.invariant c.read_some.ensures c.in-Continue.is
 
-pub returns-in-None : goal.returns-in-None
-returns-in-None c = read_all c.loop.invariant c.read_some.ensures c.in-None.is
+pub returns-in-Break : goal.returns-in-Break
+returns-in-Break c = read_all c.loop.invariant c.read_some.ensures c.in-Break.is
